@@ -1,0 +1,21 @@
+use mathlib.Core.Path.{_≡_, _∙_}
+use native.Mathlib.Omega.{arith}
+use borrow.Author.Needs.{needs}
+use Rattle.consensus.specs.Rules.{akcn-recover}
+use Rattle.consensus.proofs.AkcnValues.{allowed}
+use Rattle.consensus.proofs.Fits.{akcn-up, akcn-down, by-small, by-some}
+use Rattle.consensus.proofs.AkcnAgreement.{akcn-recover-is}
+use Rattle.consensus.proofs.akcn.methods.AkcnRule.recover.Needs as need
+
+pub floor-mod-requires : need.floor-mod-requires
+floor-mod-requires c κs =
+    let r = c .args .self .now in
+    let up = akcn-up (r .q) (r .m) (r .g) (allowed r) (c .args .hint) (c .if-hint-self .left) in
+    let down = akcn-down (r .q) (r .m) (r .g) (allowed r) (c .args .sum) (c .if-sum-self .left) in
+    record { small = (up, (down, by-small (r .q) (r .m) (r .g) (allowed r))); nonzero = (by-some (r .q) (r .m) (r .g) (allowed r), omega arith) }
+
+pub returns : need.returns
+returns c =
+    let r = c .args .self .now in
+    let e : c .floor-mod .result ≡ akcn-recover (r .q) (r .m) (r .g) (c .args .sum) (c .args .hint) = c .floor-mod .ensures ∙ akcn-recover-is (r .q) (r .m) (r .g) (c .args .sum) (c .args .hint) in
+    search needs

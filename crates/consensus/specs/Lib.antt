@@ -1,0 +1,9 @@
+pub mod Arithmetic
+pub mod Consensus
+pub mod Evenness
+pub mod Laws
+pub mod Rules
+pub mod Replies
+pub mod Meanings
+pub mod Samples
+pub mod Carried

@@ -1,0 +1,43 @@
+-- What the rules come to at a few small numbers. Assumes nothing.
+use Prim.Native.Nat.{ℕ}
+use mathlib.Core.Path.{_≡_}
+use Rattle.std.specs.declared.result.Result.the-variants.{Ok, Err}
+use Rattle.consensus.specs.Consensus.{Consensus}
+use Rattle.consensus.specs.Evenness.{ways}
+use Rattle.consensus.specs.Replies.{okcn-built, akcn-built}
+use Rattle.consensus.specs.Rules.{okcn, akcn}
+use Rattle.consensus.specs.declared.fault.RuleFault.the-variants.{Distance}
+
+pub record Samples : Type 0 where
+  -- OKCN with q 16, m 4, g 8
+  pub sixteen : okcn-built 16 4 8 ≡ Ok (okcn 16 4 8)
+  pub sixteen-draws : okcn 16 4 8 .draws ≡ 1
+  pub sixteen-distance : okcn 16 4 8 .distance ≡ 1
+  pub sixteen-settles : okcn 16 4 8 .settle 7 0 ≡ (1, 6)
+  pub sixteen-below : okcn 16 4 8 .recover 6 6 ≡ 1
+  pub sixteen-above : okcn 16 4 8 .recover 8 6 ≡ 1
+  pub sixteen-beyond : okcn 16 4 8 .recover 10 6 ≡ 2
+  -- the numerator is negative here: cut towards zero, the digit would be 0
+  pub sixteen-negative : okcn 16 4 8 .recover 0 6 ≡ 3
+  -- OKCN with q 11, m 2, g 4
+  pub eleven : okcn-built 11 2 4 ≡ Ok (okcn 11 2 4)
+  pub eleven-draws : okcn 11 2 4 .draws ≡ 2
+  pub eleven-distance : okcn 11 2 4 .distance ≡ 1
+  pub eleven-first-draw : okcn 11 2 4 .settle 5 0 ≡ (0, 3)
+  pub eleven-second-draw : okcn 11 2 4 .settle 5 1 ≡ (1, 0)
+  pub eleven-last-hint : (ways (okcn 11 2 4) 0 3 ≡ 2) × (ways (okcn 11 2 4) 1 3 ≡ 2)
+  pub eleven-first-hint : (ways (okcn 11 2 4) 0 0 ≡ 3) × (ways (okcn 11 2 4) 1 0 ≡ 3)
+  -- AKCN with q 11, m 2, g 8
+  pub chosen : akcn-built 11 2 8 ≡ Ok (akcn 11 2 8)
+  pub chosen-distance : akcn 11 2 8 .distance ≡ 1
+  pub chosen-one : akcn 11 2 8 .settle 5 1 ≡ (1, 0)
+  pub chosen-zero : akcn 11 2 8 .settle 5 0 ≡ (0, 4)
+  pub chosen-one-back : akcn 11 2 8 .recover 6 0 ≡ 1
+  pub chosen-zero-back : akcn 11 2 8 .recover 6 4 ≡ 0
+  -- the edge of building
+  pub four-refused : okcn-built 4 2 2 ≡ Err Distance
+  pub five-built : okcn-built 5 2 2 ≡ Ok (okcn 5 2 2)
+  pub five-distance : okcn 5 2 2 .distance ≡ 0
+  pub chosen-refused : akcn-built 16 4 4 ≡ Err Distance
+  pub large-built : okcn-built 16384 16 1024 ≡ Ok (okcn 16384 16 1024)
+  pub large-distance : okcn 16384 16 1024 .distance ≡ 510
