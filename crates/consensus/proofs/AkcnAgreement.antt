@@ -66,4 +66,3 @@ module _ (q m g d : ℕ) (pq : 0 < q) (pm : 0 < m) (pg : 0 < g) (near : Near m g
       let (low′, high′) = turned q m g d k a b t (t % g) (t / g) close (div-add-mod t g) low high in
       sym (akcn-recover-is q m g b (t % g))
       ∙ rounds (2 * m * (t % g) * q + g * q) (2 * m * g * b) (2 * g * q) m k (close .over + t / g) (close .back) by km low′ high′
-
