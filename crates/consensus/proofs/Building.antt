@@ -1,5 +1,5 @@
 -- Which numbers make a rule, and which distance it then has. Assumes nothing.
-use mathlib.Core.Path.{_≡_, refl}
+use mathlib.Core.Path.{_≡_, refl, sym, ap, subst}
 use mathlib.Core.Bool.{Bool, true, false}
 use Prim.Native.Nat.{ℕ, _*_, _<_}
 use native.Mathlib.Omega.{arith}
@@ -41,8 +41,8 @@ reached q m g room d e = go (allowed q m g) refl (ltb (m * g) room) refl e
     go true p false r e = absurd (never-granted e)
     go false p t r e = absurd (never-granted e)
 
--- the rule c that is built from the distance is built as it should be
-pub built : (c : Consensus) (q m g room : ℕ) → c .distance ≡ widest m g room
+-- what comes of the distance is what building should come to
+built : (c : Consensus) (q m g room : ℕ) → c .distance ≡ widest m g room
     → Built q m g room (mapped (λ _. c) (λ fault. fault) (reach q m g room))
 built c q m g room far = go (allowed q m g) refl (ltb (m * g) room) refl
   where
@@ -55,3 +55,10 @@ built c q m g room far = go (allowed q m g) refl (ltb (m * g) room) refl
         let far : m * g < room → ⊥ = not-from-decides (ltb (m * g) room) (decides-ltb (m * g) room) r in
         (allowed-decides q m g .0 p, none-near m g room (omega arith))
     go false p t r = not-from-decides (allowed q m g) (allowed-decides q m g) p
+
+-- a rule that is built with the distance d, as its `new` answers
+pub granted : (c : Consensus) (q m g room d : ℕ) → c .distance ≡ widest m g room → Ok d ≡ reach q m g room
+    → (Ok c ≡ mapped (λ _. c) (λ fault. fault) (reach q m g room)) × Built q m g room (Ok c)
+granted c q m g room d far e =
+    let answer = ap (mapped (λ _. c) (λ (fault : RuleFault). fault)) e in
+    (answer, subst (Built q m g room) (sym answer) (built c q m g room far))

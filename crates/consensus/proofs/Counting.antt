@@ -5,9 +5,9 @@ use mathlib.Core.Bool.{Bool, true, false, _&&_, cond}
 use mathlib.Core.List.{List, [], _∷_}
 use Prim.Native.Nat.{ℕ, zero, suc, _+_, _*_, _%_, _<_}
 use native.Mathlib.Nat.{zero-mul, mul-zero, one-mul, mul-add, add-mul, add-zero, zero-add, add-suc, suc-add, suc-mul, add-assoc, le-refl, le-step, mod-eq-of-lt, add-right-cancel, add-mod-left, eq-or-lt-of-le, le-of-suc-le-suc, not-suc-le-zero, ne-of-lt, ne-of-gt}
-use native.Mathlib.Decide.{ℕ-discrete}
 use native.Mathlib.Omega.{arith}
-use lib.Dec.{T, eqb, eqb→eq, eqb-refl}
+use lib.Dec.{eqb}
+use Rattle.std.proofs.shelf.Tests.{eq-eqb, ne-eqb}
 
 -- f 0 + f 1 + .. + f (n - 1)
 abbrev pub tally : ℕ → (ℕ → ℕ) → ℕ
@@ -83,31 +83,17 @@ both true false = refl
 both false true = refl
 both false false = refl
 
-true-of : (b : Bool) → T b → b ≡ true
-true-of true t = refl
-true-of false t = absurd t
-
-false-of : (b : Bool) → (T b → ⊥) → b ≡ false
-false-of true f = absurd (f tt)
-false-of false f = refl
-
-pub equal : {x y : ℕ} → x ≡ y → eqb x y ≡ true
-equal {x} {y} e = true-of (eqb x y) (rw (← e) (eqb-refl x))
-
-pub unequal : {x y : ℕ} → x ≢ y → eqb x y ≡ false
-unequal {x} {y} ne = false-of (eqb x y) (λ t. ne (eqb→eq x y t))
-
 -- of a sum in which one test picks a place, that place is left
 pub tally-pick : (n k : ℕ) (f : ℕ → ℕ) → k < n → tally n (λ i. one-if (eqb i k) * f i) ≡ f k
 tally-pick zero k f h = absurd (not-suc-le-zero h)
 tally-pick (suc n) k f h = go (tally-pick n k f) (eq-or-lt-of-le (le-of-suc-le-suc h))
   where
     miss : (i : ℕ) → i ≢ k → one-if (eqb i k) * f i ≡ 0
-    miss i ne = ap (λ b. one-if b * f i) (unequal ne) ∙ zero-mul (f i)
+    miss i ne = ap (λ b. one-if b * f i) (ne-eqb i k ne) ∙ zero-mul (f i)
 
     go : (k < n → tally n (λ i. one-if (eqb i k) * f i) ≡ f k) → (k ≡ n) ⊎ (k < n)
         → tally n (λ i. one-if (eqb i k) * f i) + one-if (eqb n k) * f n ≡ f k
     go earlier (inl e) =
-        ap₂ _+_ (tally-agree n (λ i l. miss i (ne-of-lt (rw e l))) ∙ tally-none n) (ap (λ b. one-if b * f n) (equal (sym e)) ∙ one-mul (f n))
+        ap₂ _+_ (tally-agree n (λ i l. miss i (ne-of-lt (rw e l))) ∙ tally-none n) (ap (λ b. one-if b * f n) (eq-eqb n k (sym e)) ∙ one-mul (f n))
         ∙ zero-add (f n) ∙ ap f (sym e)
     go earlier (inr l) = ap₂ _+_ (earlier l) (miss n (ne-of-gt l)) ∙ add-zero (f k)

@@ -1,10 +1,9 @@
 -- The largest d with (2 * d + 1) * m * g < room. Assumes nothing.
-use mathlib.Core.Path.{_≡_}
 use Prim.Native.Nat.{ℕ, _+_, _-_, _*_, _/_, _≤_, _<_}
 use native.Mathlib.Nat.{div-add-mod, mul-le-mul-left, mul-le-mul-right}
 use native.Mathlib.Omega.{arith}
 use Rattle.std.proofs.shelf.Bits.{le-div}
-use Rattle.consensus.specs.Rules.{Allowed, Near, Largest, None-near, widest}
+use Rattle.consensus.specs.Rules.{Allowed, Largest, None-near, widest}
 
 -- the same over one number a, which is m * g
 module _ (a room : ℕ) (some : 0 < a) where

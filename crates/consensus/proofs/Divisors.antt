@@ -5,9 +5,9 @@ use mathlib.Core.Bool.{Bool, true, false, _&&_, cond, false≢true}
 use Prim.Native.Nat.{ℕ, zero, suc, _*_, _/_, _%_, _≤_, _<_, max}
 use native.Mathlib.Nat.{mod-one, dvd-refl, dvd-zero, dvd-of-mod-eq-zero, mod-eq-zero-of-dvd, dvd-mod-iff, le-of-dvd, pos-of-dvd-of-pos, le-antisymm, eq-or-lt-of-le, le-of-suc-le-suc, not-suc-le-zero, zero-lt-suc, div-add-mod}
 use native.Mathlib.Omega.{arith}
-use lib.Dec.{eqb, eqb→eq}
+use lib.Dec.{eqb}
+use Rattle.std.proofs.shelf.Tests.{eqb-true, eq-eqb}
 use Rattle.consensus.specs.Arithmetic.{greatest-up-to, gcd, GreatestDivisor}
-use Rattle.consensus.proofs.Counting.{equal}
 
 -- ---- Euclid's rule
 
@@ -30,11 +30,8 @@ record Common (d a b : ℕ) : Type 0 where
 both-zero : (x y : ℕ) → (eqb x 0 && eqb y 0) ≡ true → (x ≡ 0) × (y ≡ 0)
 both-zero x y e = go (eqb x 0) refl (eqb y 0) refl e
   where
-    passed : (z : ℕ) → eqb z 0 ≡ true → z ≡ 0
-    passed z p = eqb→eq z 0 (rw p tt)
-
     go : (s : Bool) → eqb x 0 ≡ s → (t : Bool) → eqb y 0 ≡ t → (s && t) ≡ true → (x ≡ 0) × (y ≡ 0)
-    go true p true r e = (passed x p, passed y r)
+    go true p true r e = (eqb-true x 0 p, eqb-true y 0 r)
     go true p false r e = absurd (false≢true e)
     go false p t r e = absurd (false≢true e)
 
@@ -59,7 +56,7 @@ greatest (suc n) a b d h c = go (eqb (a % suc n) 0 && eqb (b % suc n) 0) refl (e
         → (d ≤ n → d ≤ greatest-up-to n a b) → d ≤ cond t (suc n) (greatest-up-to n a b)
     go true e s earlier = h
     go false e (inl s) earlier =
-        absurd (false≢true (sym e ∙ rw (← s) (ap (λ t. t && eqb (b % d) 0) (equal (c .left)) ∙ equal (c .right))))
+        absurd (false≢true (sym e ∙ rw (← s) (ap (λ t. t && eqb (b % d) 0) (eq-eqb (a % d) 0 (c .left)) ∙ eq-eqb (b % d) 0 (c .right))))
     go false e (inr l) earlier = earlier (le-of-suc-le-suc l)
 
 gcd-common : (a b : ℕ) → 0 < b → Common (gcd a b) a b

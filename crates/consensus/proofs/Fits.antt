@@ -1,5 +1,4 @@
 -- How large the numbers get that a rule within its limits computes. Assumes nothing.
-use mathlib.Core.Path.{_≡_}
 use Prim.Native.Nat.{ℕ, _+_, _*_, _^_, _≤_, _<_}
 use native.Mathlib.Nat.{mul-le-mul-left, le-of-mul-le-mul-left}
 use native.Mathlib.Omega.{arith}

@@ -1,13 +1,12 @@
 -- OKCN is even: a sum and a draw are a point of the circle, the circle only turns, and its parts are alike. Assumes nothing.
 use mathlib.Core.Path.{_≡_, sym, ap, ap₂, _∙_, fun-ext}
 use mathlib.Core.Bool.{_&&_}
-use Prim.Native.Nat.{ℕ, _+_, _-_, _*_, _/_, _%_, _≤_, _<_}
+use Prim.Native.Nat.{ℕ, _+_, _-_, _*_, _/_, _%_, _<_}
 use native.Mathlib.Nat.{mul-comm, mul-pos, le-mul-of-pos-right}
-use native.Mathlib.Omega.{arith}
 use lib.Arith.{digits-div, digits-mod}
 use lib.Dec.{eqb}
 use Rattle.consensus.specs.Evenness.{Even, ways}
-use Rattle.consensus.specs.Rules.{okcn, okcn-draws, okcn-point}
+use Rattle.consensus.specs.Rules.{okcn, okcn-draws}
 use Rattle.consensus.proofs.Counted.{at-place, ways-is}
 use Rattle.consensus.proofs.Counting.{tally, one-if, both, tally-agree, tally-blocks, tally-pick, tally-scale-left, tally-turn}
 use Rattle.consensus.proofs.OkcnParts.{Shared, shared, point-turned}

@@ -1,12 +1,10 @@
 -- What a rule's calls answer, refusals included. Assumes nothing.
 use Prim.Native.Nat.{ℕ, _*_}
 use mathlib.Core.Bool.{Bool, _&&_, cond}
-use mathlib.Core.Path.{_≡_}
 use lib.Dec.{leb, ltb}
 use Rattle.std.specs.declared.result.Result.{Result}
 use Rattle.std.specs.declared.result.Result.the-variants.{Ok, Err}
 use Rattle.std.specs.Results.{mapped}
-use Rattle.consensus.specs.Arithmetic.{apart}
 use Rattle.consensus.specs.Consensus.{Consensus}
 use Rattle.consensus.specs.Rules.{Allowed, Largest, None-near, okcn, okcn-room, akcn, akcn-room, widest}
 use Rattle.consensus.specs.declared.fault.RuleFault.{RuleFault}

@@ -1,12 +1,25 @@
 -- What the rules come to at a few small numbers. Assumes nothing.
-use Prim.Native.Nat.{ℕ}
+use Prim.Native.Nat.{_/_}
+use mathlib.Core.List.{[], _∷_}
 use mathlib.Core.Path.{_≡_}
 use Rattle.std.specs.declared.result.Result.the-variants.{Ok, Err}
 use Rattle.consensus.specs.Consensus.{Consensus}
-use Rattle.consensus.specs.Evenness.{ways}
+use Rattle.consensus.specs.Evenness.{Even, ways, ways-all}
 use Rattle.consensus.specs.Replies.{okcn-built, akcn-built}
 use Rattle.consensus.specs.Rules.{okcn, akcn}
 use Rattle.consensus.specs.declared.fault.RuleFault.the-variants.{Distance}
+
+-- a rule that is not even: three sums cut into two digits, with no draw to share them out
+abbrev pub lopsided : Consensus
+lopsided = record {
+  modulus = 3;
+  digits = 2;
+  hints = 1;
+  distance = 0;
+  draws = 1;
+  settle = λ sum draw. (sum / 2, 0);
+  recover = λ sum hint. sum / 2;
+}
 
 pub record Samples : Type 0 where
   -- OKCN with q 16, m 4, g 8
@@ -27,6 +40,8 @@ pub record Samples : Type 0 where
   pub eleven-second-draw : okcn 11 2 4 .settle 5 1 ≡ (1, 0)
   pub eleven-last-hint : (ways (okcn 11 2 4) 0 3 ≡ 2) × (ways (okcn 11 2 4) 1 3 ≡ 2)
   pub eleven-first-hint : (ways (okcn 11 2 4) 0 0 ≡ 3) × (ways (okcn 11 2 4) 1 0 ≡ 3)
+  -- at two places the counts multiply: 2 * 3
+  pub eleven-two-places : ways-all (okcn 11 2 4) 2 (0 ∷ 1 ∷ []) (3 ∷ 0 ∷ []) ≡ 6
   -- AKCN with q 11, m 2, g 8
   pub chosen : akcn-built 11 2 8 ≡ Ok (akcn 11 2 8)
   pub chosen-distance : akcn 11 2 8 .distance ≡ 1
@@ -41,3 +56,5 @@ pub record Samples : Type 0 where
   pub chosen-refused : akcn-built 16 4 4 ≡ Err Distance
   pub large-built : okcn-built 16384 16 1024 ≡ Ok (okcn 16384 16 1024)
   pub large-distance : okcn 16384 16 1024 .distance ≡ 510
+  -- evenness is no idle law
+  pub uneven : Even lopsided → ⊥

@@ -1,6 +1,6 @@
 // The arithmetic that both rules are computed with.
 ghost use mathlib.Core.Path.{_≡_};
-ghost use Prim.Native.Nat.{_^_, _<_, _≤_};
+ghost use Prim.Native.Nat.{_^_, _<_};
 ghost use lib.IntN.{pos, _-ℤ_};
 ghost use Rattle.consensus.specs.Arithmetic.{residue, floor, round, apart, GreatestDivisor};
 

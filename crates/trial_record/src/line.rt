@@ -1,8 +1,8 @@
-// The line that a record prints.
+// The line that a record prints, and the lines of a whole input.
 ghost use mathlib.Core.Path.{_≡_};
 ghost use Rattle.std.specs.Of.String.{string-bytes};
 ghost use Rattle.std.specs.Vec.{made};
-ghost use Rattle.trial_record.specs.Lines.{line};
+ghost use Rattle.trial_record.specs.Lines.{line, output};
 ghost use Rattle.trial_record.specs.Trials.{record-reply};
 use crate::fault::TrialFault;
 use crate::record::Outcome;
@@ -16,8 +16,8 @@ fn try_record(bytes: &[u8]) -> Result<Outcome, TrialFault>
     Record::read(bytes)?.run()
 }
 
-// What the record at the front of the bytes prints.
-pub fn record_line(heap: Global, bytes: &[u8]) -> Result<String, AllocError>
+// The line of the record at the front of the bytes.
+fn record_line(heap: Global, bytes: &[u8]) -> Result<String, AllocError>
     ensures { λ r. ⌜ made r (λ text. string-bytes text ≡ line (record-reply (now (bytes .entry)))) ⌝ }
 {
     match try_record(bytes) {
@@ -34,4 +34,17 @@ pub fn record_line(heap: Global, bytes: &[u8]) -> Result<String, AllocError>
             format!(heap, "refused {number}")
         }
     }
+}
+
+// All lines of an input: one for each record, and one for a rest that is shorter than a record.
+pub fn lines(heap: Global, input: &[u8]) -> Result<String, AllocError>
+    ensures { λ r. ⌜ made r (λ text. string-bytes text ≡ output (now (input .entry))) ⌝ }
+{
+    let mut text = String::new(heap);
+    for i in 0..input.len().div_ceil(14) {
+        let line = record_line(heap, &input[14 * i..])?;
+        text.push_str(line.as_str())?;
+        text.push_str("\n")?;
+    }
+    Ok(text)
 }

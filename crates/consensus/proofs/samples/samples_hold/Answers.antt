@@ -1,10 +1,12 @@
 use mathlib.Core.Path.{refl}
+use native.Mathlib.Nat.{suc-inj, suc-ne-zero}
+use lib.Dec.{lit<}
 use Rattle.consensus.specs.Arithmetic.{gcd}
-use Rattle.consensus.specs.Evenness.{ways}
+use Rattle.consensus.specs.Evenness.{ways, ways-all}
 use Rattle.consensus.proofs.samples.samples_hold.Needs as need
 
 pub returns : need.returns
-unfolding gcd ways
+unfolding gcd ways ways-all
 returns c = record {
   sixteen = refl;
   sixteen-draws = refl;
@@ -21,6 +23,7 @@ returns c = record {
   eleven-second-draw = refl;
   eleven-last-hint = (refl, refl);
   eleven-first-hint = (refl, refl);
+  eleven-two-places = refl;
   chosen = refl;
   chosen-distance = refl;
   chosen-one = refl;
@@ -33,4 +36,5 @@ returns c = record {
   chosen-refused = refl;
   large-built = refl;
   large-distance = refl;
+  uneven = λ even. suc-ne-zero 0 (suc-inj (even 0 0 1 (lit< tt) (lit< tt) (lit< tt)));
 }

@@ -1,11 +1,9 @@
-use mathlib.Core.Path.{refl, sym, ap, subst}
+use mathlib.Core.Path.{refl, ap}
 use Prim.Native.Nat.{ℕ, _/_, _<_}
 use native.Mathlib.Nat.{pos-of-dvd-of-pos}
 use native.Mathlib.Omega.{arith}
-use Rattle.std.specs.Results.{mapped}
-use Rattle.consensus.specs.Replies.{Built}
 use Rattle.consensus.specs.Rules.{okcn, okcn-room}
-use Rattle.consensus.proofs.Building.{Reached, built, reached}
+use Rattle.consensus.proofs.Building.{Reached, granted, reached}
 use Rattle.consensus.proofs.Divisors.{gcd-is}
 use Rattle.consensus.proofs.okcn.Okcn.new.Needs as need
 
@@ -27,7 +25,5 @@ ghost-result c =
 pub returns : need.returns
 returns c =
     let x = c .args in
-    let rule = okcn (x .q) (x .m) (x .g) in
-    let room = okcn-room (x .q) (x .m) (x .g) in
-    let answer = ap (mapped (λ _. rule) (λ fault. fault)) (c .in-Continue-d .ensures tt) in
-    record { answer = answer; exactly = subst (Built (x .q) (x .m) (x .g) room) (sym answer) (built rule (x .q) (x .m) (x .g) room refl) }
+    let (answer, exactly) = granted (okcn (x .q) (x .m) (x .g)) (x .q) (x .m) (x .g) (okcn-room (x .q) (x .m) (x .g)) (c .in-Continue-d .d) refl (c .in-Continue-d .ensures tt) in
+    record { answer = answer; exactly = exactly }

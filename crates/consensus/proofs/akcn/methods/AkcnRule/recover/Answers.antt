@@ -1,7 +1,5 @@
-use mathlib.Core.Path.{_≡_, _∙_}
 use native.Mathlib.Omega.{arith}
 use borrow.Author.Needs.{needs}
-use Rattle.consensus.specs.Rules.{akcn-recover}
 use Rattle.consensus.proofs.AkcnValues.{allowed}
 use Rattle.consensus.proofs.Fits.{akcn-up, akcn-down, by-small, by-some}
 use Rattle.consensus.proofs.AkcnAgreement.{akcn-recover-is}
@@ -15,7 +13,4 @@ floor-mod-requires c κs =
     record { small = (up, (down, by-small (r .q) (r .m) (r .g) (allowed r))); nonzero = (by-some (r .q) (r .m) (r .g) (allowed r), omega arith) }
 
 pub returns : need.returns
-returns c =
-    let r = c .args .self .now in
-    let e : c .floor-mod .result ≡ akcn-recover (r .q) (r .m) (r .g) (c .args .sum) (c .args .hint) = c .floor-mod .ensures ∙ akcn-recover-is (r .q) (r .m) (r .g) (c .args .sum) (c .args .hint) in
-    search needs
+returns c = search (needs, akcn-recover-is)

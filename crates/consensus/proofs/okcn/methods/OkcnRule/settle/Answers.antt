@@ -1,6 +1,5 @@
-use mathlib.Core.Path.{_≡_, subst, sym, _∙_}
+use mathlib.Core.Path.{subst, sym}
 use borrow.Author.Needs.{needs}
-use Rattle.consensus.specs.Rules.{okcn-point}
 use Rattle.consensus.proofs.OkcnParts.{point-is}
 use Prim.Native.Nat.{ℕ, _*_, _<_}
 use native.Mathlib.Omega.{arith}
@@ -33,7 +32,4 @@ pub cast-result-2 : need.cast-result-2
 cast-result-2 c = omega (arith, hint-fits (c .args .self .now) (c .difference-mod-point .result))
 
 pub returns : need.returns
-returns c =
-    let r = c .args .self .now in
-    let e : c .difference-mod-point .result ≡ okcn-point (r .c) (r .q) (c .args .sum) (c .args .draw) = c .difference-mod-point .ensures ∙ point-is (r .c) (r .q) (c .args .sum) (c .args .draw) in
-    search needs
+returns c = search (needs, point-is)
