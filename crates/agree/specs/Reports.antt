@@ -2,15 +2,14 @@
 use Prim.Native.Nat.{ℕ}
 use Rattle.std.specs.Results.{mapped}
 use Rattle.std.specs.declared.result.Result.{Result}
-use Rattle.std.specs.declared.result.Result.the-variants.{Ok, Err}
 use Rattle.consensus.specs.Carried.{carry-reply}
 use Rattle.consensus.specs.Consensus.{Consensus}
 use Rattle.consensus.specs.declared.fault.RuleFault.{RuleFault}
 use Rattle.agree.specs.declared.report.Name.{Name}
 use Rattle.agree.specs.declared.report.Report.{Report}
 
-abbrev pub report : Name → Consensus → (sum draw other : ℕ) → Result Report RuleFault
-report name rule sum draw other =
+abbrev pub report-reply : Name → Consensus → (sum draw other : ℕ) → Result Report RuleFault
+report-reply name rule sum draw other =
     mapped
     (λ carried. record {
       name = name;
@@ -25,8 +24,3 @@ report name rule sum draw other =
       carried = carried;
     })
     (λ fault. fault) (carry-reply rule sum draw other)
-
--- by a rule that may not have been built
-abbrev pub report-with : Name → Result Consensus RuleFault → (sum draw other : ℕ) → Result Report RuleFault
-report-with name (Ok rule) sum draw other = report name rule sum draw other
-report-with name (Err fault) sum draw other = Err fault

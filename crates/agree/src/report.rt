@@ -1,14 +1,9 @@
 // What happens to a digit on its way from one side to the other.
 ghost use mathlib.Core.Path.{_≡_};
-ghost use Rattle.consensus.specs.Replies.{okcn-built, akcn-built};
-ghost use Rattle.agree.specs.Reports.{report, report-with};
-use consensus::akcn::Akcn;
-use consensus::akcn::AkcnRule;
+ghost use Rattle.agree.specs.Reports.{report-reply};
 use consensus::carry::Carried;
 use consensus::carry::carry;
 use consensus::fault::RuleFault;
-use consensus::okcn::Okcn;
-use consensus::okcn::OkcnRule;
 use consensus::rule::Rule;
 use std::fmt;
 
@@ -34,42 +29,15 @@ pub struct Report {
 }
 
 impl Report {
-    // Builds OKCN from q, m and g, and carries a digit by it.
-    pub fn by_okcn(
-        q: u32,
-        m: u32,
-        g: u32,
-        sum: u16,
-        draw: u16,
-        other: u16,
-    ) -> Result<Report, RuleFault>
-        ensures { λ r. ⌜ r ≡ report-with Name.Okcn (okcn-built q m g) sum draw other ⌝ }
-    {
-        Report::over(Name::Okcn, &Okcn::new(q, m, g)?, sum, draw, other)
-    }
-
-    // The same by AKCN.
-    pub fn by_akcn(
-        q: u32,
-        m: u32,
-        g: u32,
-        sum: u16,
-        draw: u16,
-        other: u16,
-    ) -> Result<Report, RuleFault>
-        ensures { λ r. ⌜ r ≡ report-with Name.Akcn (akcn-built q m g) sum draw other ⌝ }
-    {
-        Report::over(Name::Akcn, &Akcn::new(q, m, g)?, sum, draw, other)
-    }
-
-    fn over<R: Rule>(
+    // Settles `sum` with `draw` by the rule, and recovers from `other`.
+    pub fn of<R: Rule>(
         name: Name,
         rule: &R,
         sum: u16,
         draw: u16,
         other: u16,
     ) -> Result<Report, RuleFault>
-        ensures { λ r. ⌜ r ≡ report name (R·Rule .meaning (now (rule .entry))) sum draw other ⌝ }
+        ensures { λ r. ⌜ r ≡ report-reply name (R·Rule .meaning (now (rule .entry))) sum draw other ⌝ }
     {
         let carried = carry(rule, sum, draw, other)?;
         Ok(Report {

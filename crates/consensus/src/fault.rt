@@ -1,6 +1,8 @@
 // Why a rule refused a call.
 ghost use mathlib.Core.Path.{_≡_};
 ghost use Rattle.consensus.specs.Replies.{number, place};
+use std::error::Error;
+use std::fmt;
 
 #[derive(Clone, Copy, PartialEq, Eq, Debug)]
 pub enum RuleFault {
@@ -33,3 +35,16 @@ impl RuleFault {
         0
     }
 }
+
+pub impl fmt::Display for RuleFault as RuleFaultDisplay {
+    fn fmt<W: fmt::Write>(&self, f: &mut fmt::Formatter<W>) -> fmt::Result {
+        match self {
+            RuleFault::Limits => write!(f, "the numbers of a rule are outside their limits"),
+            RuleFault::Distance => write!(f, "no distance exists for the numbers of a rule"),
+            RuleFault::Draw => write!(f, "a draw is out of range"),
+            RuleFault::Range => write!(f, "a sum or a hint is out of range"),
+        }
+    }
+}
+
+pub impl Error for RuleFault as RuleFaultError {}
