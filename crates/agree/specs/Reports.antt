@@ -8,8 +8,8 @@ use Rattle.consensus.specs.declared.fault.RuleFault.{RuleFault}
 use Rattle.agree.specs.declared.report.Name.{Name}
 use Rattle.agree.specs.declared.report.Report.{Report}
 
-abbrev pub report-reply : Name → Consensus → (sum draw other : ℕ) → Result Report RuleFault
-report-reply name rule sum draw other =
+abbrev pub report-reply : Name → Consensus → (sum draw second : ℕ) → Result Report RuleFault
+report-reply name rule sum draw second =
     mapped
     (λ carried. record {
       name = name;
@@ -20,7 +20,7 @@ report-reply name rule sum draw other =
       c = rule .draws;
       sum = sum;
       draw = draw;
-      other = other;
+      second = second;
       carried = carried;
     })
-    (λ fault. fault) (carry-reply rule sum draw other)
+    (λ fault. fault) (carry-reply rule sum draw second)

@@ -1,5 +1,7 @@
 // What happens to a digit on its way from one side to the other.
 ghost use mathlib.Core.Path.{_≡_};
+ghost use Prim.Native.Nat.{_≤_};
+ghost use Rattle.std.specs.Vec.{made};
 ghost use Rattle.agree.specs.Reports.{report-reply};
 use consensus::carry::Carried;
 use consensus::carry::carry;
@@ -24,22 +26,23 @@ pub struct Report {
     c: u32,
     sum: u16,
     draw: u16,
-    other: u16,
+    second: u16,
     carried: Carried,
 }
 
 impl Report {
-    // Settles `sum` with `draw` by the rule, and recovers from `other`.
+    // Settles `sum` with `draw` by the rule, and recovers from `second`.
     pub fn of<R: Rule>(
         name: Name,
         rule: &R,
         sum: u16,
         draw: u16,
-        other: u16,
+        second: u16,
     ) -> Result<Report, RuleFault>
-        ensures { λ r. ⌜ r ≡ report-reply name (R·Rule .meaning (now (rule .entry))) sum draw other ⌝ }
+        ensures answer { λ r. ⌜ r ≡ report-reply name (R·Rule .meaning (now (rule .entry))) sum draw second ⌝ }
+        ensures agrees { λ r. ⌜ made r (λ p. p .carried .apart ≤ p .d → p .carried .recovered ≡ p .carried .digit) ⌝ }
     {
-        let carried = carry(rule, sum, draw, other)?;
+        let carried = carry(rule, sum, draw, second)?;
         Ok(Report {
             name,
             q: rule.modulus(),
@@ -49,7 +52,7 @@ impl Report {
             c: rule.draws(),
             sum,
             draw,
-            other,
+            second,
             carried,
         })
     }
@@ -75,7 +78,7 @@ pub impl fmt::Display for Report as ReportDisplay {
             c,
             sum,
             draw,
-            other,
+            second,
             carried,
         } = *self;
         let Carried {
@@ -96,7 +99,7 @@ pub impl fmt::Display for Report as ReportDisplay {
         let reach = if apart <= d { "within" } else { "beyond" };
         writeln!(
             f,
-            "  The other side holds sum {other}, {apart} away around {q}: {reach} the distance."
+            "  The other side holds sum {second}, {apart} away around {q}: {reach} the distance."
         )?;
         writeln!(
             f,

@@ -8,7 +8,7 @@ use borrow.Author.Differences.{up, down}
 use lib.IntN.{ℤ, pos, _+ℤ_, _-ℤ_, _*ℤ_}
 use Rattle.std.proofs.shelf.Signed.{ints}
 use Rattle.consensus.specs.Arithmetic.{residue, floor, round}
-use Rattle.consensus.specs.Rules.{Near, akcn-room, akcn-hint, akcn-recover}
+use Rattle.consensus.specs.Rules.{Meets, akcn-bound, akcn-hint, akcn-recover}
 use Rattle.consensus.proofs.Residues.{Close, rounds}
 
 -- a rounded quotient is at most a half away
@@ -48,7 +48,7 @@ akcn-recover-is q m g b v =
     let whole : 2 * g * q ≡ 2 * (g * q) = omega arith in
     ap (λ (n : ℕ). residue (floor (pos (2 * m * v * q + g * q) -ℤ pos (2 * m * g * b)) n) m) whole ∙ ap (λ (z : ℤ). residue (floor z (2 * (g * q))) m) same
 
-module _ (q m g d : ℕ) (pq : 0 < q) (pm : 0 < m) (pg : 0 < g) (near : Near m g (akcn-room q m g) d) where
+module _ (q m g d : ℕ) (pq : 0 < q) (pm : 0 < m) (pg : 0 < g) (near : Meets m g (akcn-bound q m g) d) where
   margin : (2 * d + 1) * (m * g) + m * q < g * q
   margin = elim (decLe m g) [
     | yes h ↦ let rest : g ≡ (g - m) + m = omega arith in omega (arith, ap (λ (n : ℕ). q * n) rest)

@@ -5,7 +5,7 @@ use native.Mathlib.Omega.{arith}
 use mathlib.Core.Path.{subst}
 use Rattle.consensus.specs.Laws.{Lawful}
 use Rattle.consensus.specs.Meanings.{akcn-of}
-use Rattle.consensus.specs.Rules.{Allowed, Near, akcn-room}
+use Rattle.consensus.specs.Rules.{Allowed, Meets, akcn-bound}
 use Rattle.consensus.specs.declared.akcn.Akcn.{Akcn}
 use Rattle.consensus.proofs.AkcnAgreement.{akcn-agrees}
 use Rattle.consensus.proofs.AkcnEvenness.{akcn-even}
@@ -13,14 +13,14 @@ use Rattle.consensus.proofs.Residues.{residue-below, close-from-apart}
 
 module _ (r : Akcn) where
   pub allowed : Allowed (r .q) (r .m) (r .g)
-  allowed = record { modulus = r .modulus; digits = r .digits; hints = r .hints; room = r .room }
+  allowed = record { modulus = r .modulus; digits = r .digits; hints = r .hints; within = r .within }
 
   pub lawful : Lawful (akcn-of r)
   lawful =
       let pq : 0 < r .q = omega arith in
       let pm : 0 < r .m = omega arith in
       let pg : 0 < r .g = omega arith in
-      let near = subst (Near (r .m) (r .g) (akcn-room (r .q) (r .m) (r .g))) (r .widest) (r .near) in
+      let near = subst (Meets (r .m) (r .g) (akcn-bound (r .q) (r .m) (r .g))) (r .largest) (r .meets) in
       record {
         limits = record {
           modulus = r .modulus;

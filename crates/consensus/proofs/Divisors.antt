@@ -3,7 +3,7 @@ use mathlib.Core.Path.{_≡_, refl, sym, ap, _∙_}
 use mathlib.Core.Logic.{_⊎_, inl, inr}
 use mathlib.Core.Bool.{Bool, true, false, _&&_, cond, false≢true}
 use Prim.Native.Nat.{ℕ, zero, suc, _*_, _/_, _%_, _≤_, _<_, max}
-use native.Mathlib.Nat.{mod-one, dvd-refl, dvd-zero, dvd-of-mod-eq-zero, mod-eq-zero-of-dvd, dvd-mod-iff, le-of-dvd, pos-of-dvd-of-pos, le-antisymm, eq-or-lt-of-le, le-of-suc-le-suc, not-suc-le-zero, zero-lt-suc, div-add-mod}
+use native.Mathlib.Nat.{mod-one, dvd-refl, dvd-zero, dvd-of-mod-eq-zero, mod-eq-zero-of-dvd, dvd-mod-iff, le-of-dvd, pos-of-dvd-of-pos, eq-zero-of-zero-dvd, le-antisymm, le-trans, eq-or-lt-of-le, le-of-suc-le-suc, not-suc-le-zero, zero-lt-suc, div-add-mod}
 use native.Mathlib.Omega.{arith}
 use lib.Dec.{eqb}
 use Rattle.std.proofs.shelf.Tests.{eqb-true, eq-eqb}
@@ -59,25 +59,32 @@ greatest (suc n) a b d h c = go (eqb (a % suc n) 0 && eqb (b % suc n) 0) refl (e
         absurd (false≢true (sym e ∙ rw (← s) (ap (λ t. t && eqb (b % d) 0) (eq-eqb (a % d) 0 (c .left)) ∙ eq-eqb (b % d) 0 (c .right))))
     go false e (inr l) earlier = earlier (le-of-suc-le-suc l)
 
-gcd-common : (a b : ℕ) → 0 < b → Common (gcd a b) a b
+gcd-common : (a b : ℕ) → 0 < max a b → Common (gcd a b) a b
 unfolding gcd
-gcd-common a b some = found (max a b) a b (omega arith) .0
+gcd-common a b some = found (max a b) a b some .0
 
 gcd-greatest : (a b d : ℕ) → d ≤ max a b → Common d a b → d ≤ gcd a b
 unfolding gcd
 gcd-greatest a b d small c = greatest (max a b) a b d small c
 
--- whatever is the greatest divisor is the one of the definition
-pub gcd-is : (a b r : ℕ) → 0 < b → GreatestDivisor a b r → r ≡ gcd a b
-gcd-is a b r some is = le-antisymm (low (le-of-dvd some (is .right))) (high (gcd-common a b some))
+-- where one of the numbers is not 0
+one-is : (a b r : ℕ) → GreatestDivisor a b r → r ≤ max a b → 0 < r → r ≡ gcd a b
+one-is a b r is small some = le-antisymm low high
   where
-    low : r ≤ b → r ≤ gcd a b
-    low small = gcd-greatest a b r (omega arith) record { left = mod-eq-zero-of-dvd r (is .left); right = mod-eq-zero-of-dvd r (is .right) }
+    low : r ≤ gcd a b
+    low = gcd-greatest a b r small record { left = mod-eq-zero-of-dvd r (is .left); right = mod-eq-zero-of-dvd r (is .right) }
 
-    high : Common (gcd a b) a b → gcd a b ≤ r
-    high c =
-        le-of-dvd (pos-of-dvd-of-pos (is .right) some)
-        (is .most (gcd a b) (dvd-of-mod-eq-zero (gcd a b) (c .left)) (dvd-of-mod-eq-zero (gcd a b) (c .right)))
+    high : gcd a b ≤ r
+    high =
+        let c = gcd-common a b (omega arith) in
+        le-of-dvd some (is .most (gcd a b) (dvd-of-mod-eq-zero (gcd a b) (c .left)) (dvd-of-mod-eq-zero (gcd a b) (c .right)))
+
+-- whatever is the greatest divisor is the one of the definition
+pub gcd-is : (a b r : ℕ) → GreatestDivisor a b r → r ≡ gcd a b
+unfolding gcd
+gcd-is zero zero r is = eq-zero-of-zero-dvd (is .most 0 (dvd-refl 0) (dvd-refl 0))
+gcd-is zero (suc b) r is = one-is zero (suc b) r is (le-trans (le-of-dvd (zero-lt-suc b) (is .right)) (omega arith)) (pos-of-dvd-of-pos (is .right) (zero-lt-suc b))
+gcd-is (suc a) b r is = one-is (suc a) b r is (le-trans (le-of-dvd (zero-lt-suc a) (is .left)) (omega arith)) (pos-of-dvd-of-pos (is .left) (zero-lt-suc a))
 
 -- a and b are multiples of n
 abbrev pub Multiples : ℕ → ℕ → ℕ → Type 0
@@ -86,5 +93,5 @@ Multiples n a b = (x : ℕ) × (y : ℕ) × (a ≡ x * n) × (b ≡ y * n)
 pub gcd-divides : (a b : ℕ) → 0 < b → Multiples (gcd a b) a b
 gcd-divides a b some =
     let n = gcd a b in
-    let c = gcd-common a b some in
+    let c = gcd-common a b (omega arith) in
     (a / n, b / n, omega (arith, div-add-mod a n, c .left), omega (arith, div-add-mod b n, c .right))

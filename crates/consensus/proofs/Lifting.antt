@@ -7,7 +7,7 @@ use Prim.Native.Nat.{ℕ, zero, suc, _*_}
 use native.Mathlib.Nat.{suc-inj, suc-ne-zero, zero-mul, one-mul}
 use lib.Dec.{eqb}
 use Rattle.consensus.specs.Consensus.{Consensus, settle-all, digits-of, hints-of}
-use Rattle.consensus.specs.Evenness.{Even, EvenLists, Row, same, ways, ways-all}
+use Rattle.consensus.specs.Evenness.{Even, EvenLists, AllBelow, same, ways, ways-all}
 use Rattle.consensus.proofs.Counted.{at-place, at-places, ways-is, ways-all-is}
 use Rattle.consensus.proofs.Counting.{tally, tally-lists, one-if, tally-scale, tally-lists-scale}
 
@@ -54,7 +54,7 @@ none-long {len = len} e = absurd (suc-ne-zero len (sym e))
 some-short : {A : Type 0} {len : ℕ} → suc len ≡ 0 → A
 some-short {len = len} e = absurd (suc-ne-zero len e)
 
-rest : {n len x : ℕ} {xs : List ℕ} → Row n (suc len) (x ∷ xs) → Row n len xs
+rest : {n len x : ℕ} {xs : List ℕ} → AllBelow n (suc len) (x ∷ xs) → AllBelow n len xs
 rest r = record { long = suc-inj (r .long); below = r .below .1 }
 
 pub even-lists : (c : Consensus) → Even c → EvenLists c

@@ -6,7 +6,7 @@ use native.Mathlib.Omega.{arith}
 use lib.IntN.{ℤ, pos, _+ℤ_, _-ℤ_}
 use Rattle.std.proofs.shelf.Signed.{ints}
 use Rattle.consensus.specs.Arithmetic.{residue, floor}
-use Rattle.consensus.specs.Rules.{Near, okcn-room, okcn-point, okcn-recover}
+use Rattle.consensus.specs.Rules.{Meets, okcn-bound, okcn-point, okcn-recover}
 use Rattle.consensus.proofs.OkcnParts.{Shared, point-lies, point-part}
 use Rattle.consensus.proofs.Residues.{Close, rounds}
 
@@ -52,7 +52,7 @@ recovers q m g c w b k v i j whole pc pq pm pg km low high =
     let by : 0 < 2 * g * q = omega (arith, mul-le-mul-left g pq) in
     sym (okcn-recover-is q m g b v) ∙ rounds (2 * g * m * b + g * q) ((2 * v + 1) * q) (2 * g * q) m k i j by km (omega (arith, l)) (omega (arith, u))
 
-module _ (q m g d c w : ℕ) (share : Shared q m c w) (pq : 0 < q) (pm : 0 < m) (pg : 0 < g) (near : Near m g (okcn-room q m g) d) where
+module _ (q m g d c w : ℕ) (share : Shared q m c w) (pq : 0 < q) (pm : 0 < m) (pg : 0 < g) (near : Meets m g (okcn-bound q g) d) where
   margin : g * c * (2 * d + 1) + w < g * w
   margin =
       let one-more : g ≡ (g - 1) + 1 = omega arith in

@@ -6,7 +6,7 @@ use native.Mathlib.Omega.{arith}
 use Rattle.std.proofs.shelf.Bits.{mul-lt, div-below}
 use Rattle.consensus.specs.Laws.{Lawful}
 use Rattle.consensus.specs.Meanings.{okcn-of}
-use Rattle.consensus.specs.Rules.{Allowed, Near, okcn-draws, okcn-point, okcn-room}
+use Rattle.consensus.specs.Rules.{Allowed, Meets, okcn-draws, okcn-point, okcn-bound}
 use Rattle.consensus.specs.declared.okcn.Okcn.{Okcn}
 use Rattle.consensus.proofs.OkcnAgreement.{okcn-agrees}
 use Rattle.consensus.proofs.OkcnEvenness.{okcn-even}
@@ -15,7 +15,7 @@ use Rattle.consensus.proofs.Residues.{residue-below, close-from-apart}
 
 module _ (r : Okcn) where
   pub allowed : Allowed (r .q) (r .m) (r .g)
-  allowed = record { modulus = r .modulus; digits = r .digits; hints = r .hints; room = r .room }
+  allowed = record { modulus = r .modulus; digits = r .digits; hints = r .hints; within = r .within }
 
   some-modulus : 0 < r .q
   some-modulus = omega arith
@@ -29,7 +29,7 @@ module _ (r : Okcn) where
       let pm : 0 < r .m = omega arith in
       let pg : 0 < r .g = omega arith in
       let share = share-of in
-      let near = subst (Near (r .m) (r .g) (okcn-room (r .q) (r .m) (r .g))) (r .widest) (r .near) in
+      let near = subst (Meets (r .m) (r .g) (okcn-bound (r .q) (r .g))) (r .largest) (r .meets) in
       record {
         limits = record {
           modulus = r .modulus;

@@ -2,9 +2,9 @@
 use mathlib.Core.List.{List, [], _∷_, map}
 use Prim.Native.Nat.{ℕ}
 
--- Two sides hold sums from 0 to modulus - 1 that differ a little. Settling takes a sum and a draw below `draws` to a digit
--- and a hint, which is made public; recovering takes the other sum and the hint to a digit. Up to `distance` apart, the
--- digits are one.
+-- Two sides hold sums that differ a little. Settling takes a sum and a draw to a digit and a hint, which is made public;
+-- recovering takes the other sum and the hint to a digit. Up to the distance apart around the modulus, the digits are equal.
+-- Sums are below `modulus`, digits below `digits`, hints below `hints`, draws below `draws`.
 pub record Consensus : Type 0 where
   pub modulus : ℕ
   pub digits : ℕ

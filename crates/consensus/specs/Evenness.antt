@@ -1,4 +1,5 @@
--- Evenness: a hint says nothing of the digit, at one place and at many. Assumes nothing.
+-- Evenness: where every sum and draw is equally likely, a hint says nothing of the digit, at one place and at many.
+-- Assumes nothing.
 use mathlib.Core.Path.{_≡_}
 use mathlib.Core.Bool.{Bool, true, false, _&&_}
 use mathlib.Core.List.{List, [], _∷_, map}
@@ -44,8 +45,8 @@ Even c =
     (hint digit other : ℕ) → hint < c .hints → digit < c .digits → other < c .digits
     → ways c digit hint ≡ ways c other hint
 
--- `len` numbers below n
-pub record Row (n len : ℕ) (xs : List ℕ) : Type 0 where
+-- `len` numbers, all below n
+pub record AllBelow (n len : ℕ) (xs : List ℕ) : Type 0 where
   pub long : length xs ≡ len
   pub below : All (λ x. x < n) xs
 
@@ -53,5 +54,5 @@ pub record Row (n len : ℕ) (xs : List ℕ) : Type 0 where
 abbrev pub EvenLists : Consensus → Type 0
 EvenLists c =
     (len : ℕ) (hints digits others : List ℕ)
-    → Row (c .hints) len hints → Row (c .digits) len digits → Row (c .digits) len others
+    → AllBelow (c .hints) len hints → AllBelow (c .digits) len digits → AllBelow (c .digits) len others
     → ways-all c len digits hints ≡ ways-all c len others hints

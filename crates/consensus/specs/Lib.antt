@@ -5,5 +5,5 @@ pub mod Laws
 pub mod Rules
 pub mod Replies
 pub mod Meanings
-pub mod Samples
+pub mod Examples
 pub mod Carried

@@ -1,12 +1,14 @@
 -- What a rule's calls answer, refusals included. Assumes nothing.
 use Prim.Native.Nat.{ℕ, _*_}
 use mathlib.Core.Bool.{Bool, _&&_, cond}
+use lib.Chars.{codes}
 use lib.Dec.{leb, ltb}
+use mathlib.Core.List.{List}
 use Rattle.std.specs.declared.result.Result.{Result}
 use Rattle.std.specs.declared.result.Result.the-variants.{Ok, Err}
 use Rattle.std.specs.Results.{mapped}
 use Rattle.consensus.specs.Consensus.{Consensus}
-use Rattle.consensus.specs.Rules.{Allowed, Largest, None-near, okcn, okcn-room, akcn, akcn-room, widest}
+use Rattle.consensus.specs.Rules.{Allowed, NoneMeets, Largest, okcn, okcn-bound, akcn, akcn-bound}
 use Rattle.consensus.specs.declared.fault.RuleFault.{RuleFault}
 use Rattle.consensus.specs.declared.fault.RuleFault.the-variants.{Limits, Distance, Draw, Range}
 
@@ -23,33 +25,45 @@ place Distance = 0
 place Draw = 0
 place Range = 0
 
+-- what is printed of a refusal
+abbrev pub words : RuleFault → List ℕ
+words Limits = codes "the numbers of a rule are outside their limits"
+words Distance = codes "no distance exists for the numbers of a rule"
+words Draw = codes "a draw is out of range"
+words Range = codes "a sum or a hint is out of range"
+
 -- a test that has to pass before what comes later
 abbrev pub check : {X F : Type 0} → Bool → F → Result X F → Result X F
 check passed fault later = cond passed later (Err fault)
+
+-- an answer that a later one needs
+abbrev pub followed : {X Y F : Type 0} → Result X F → (X → Result Y F) → Result Y F
+followed (Ok x) next = next x
+followed (Err fault) next = Err fault
 
 -- ---- building
 
 abbrev pub allowed : (q m g : ℕ) → Bool
 allowed q m g = leb 2 q && leb q 32768 && leb 2 m && leb m 256 && leb 2 g && leb g 4096 && leb m q && leb g q
 
--- the distance; there is one exactly where 0 is near
-abbrev pub reach : (q m g room : ℕ) → Result ℕ RuleFault
-reach q m g room = check (allowed q m g) Limits (check (ltb (m * g) room) Distance (Ok (widest m g room)))
+-- what is built from q, m and g: refused outside the limits, then where no d meets the bound, not even 0
+abbrev pub built : {X : Type 0} → (q m g bound : ℕ) → X → Result X RuleFault
+built q m g bound x = check (allowed q m g) Limits (check (ltb (m * g) bound) Distance (Ok x))
 
 abbrev pub okcn-built : (q m g : ℕ) → Result Consensus RuleFault
-okcn-built q m g = mapped (λ _. okcn q m g) (λ fault. fault) (reach q m g (okcn-room q m g))
+okcn-built q m g = built q m g (okcn-bound q g) (okcn q m g)
 
 abbrev pub akcn-built : (q m g : ℕ) → Result Consensus RuleFault
-akcn-built q m g = mapped (λ _. akcn q m g) (λ fault. fault) (reach q m g (akcn-room q m g))
+akcn-built q m g = built q m g (akcn-bound q m g) (akcn q m g)
 
--- what building comes to: a rule is refused with `Limits` exactly where its numbers are not allowed, then with `Distance`
--- exactly where no distance is near, and else has the largest
-abbrev pub Built : (q m g room : ℕ) → Result Consensus RuleFault → Type 0
-Built q m g room (Ok c) = Allowed q m g × Largest m g room (c .distance)
-Built q m g room (Err Limits) = Allowed q m g → ⊥
-Built q m g room (Err Distance) = Allowed q m g × None-near m g room
-Built q m g room (Err Draw) = ⊥
-Built q m g room (Err Range) = ⊥
+-- What building comes to: it is refused with `Limits` exactly where the numbers are not allowed, then with `Distance` exactly
+-- where no d meets the bound, and else the rule has the largest d.
+abbrev pub Built : (q m g bound : ℕ) → Result Consensus RuleFault → Type 0
+Built q m g bound (Ok c) = Allowed q m g × Largest m g bound (c .distance)
+Built q m g bound (Err Limits) = Allowed q m g → ⊥
+Built q m g bound (Err Distance) = Allowed q m g × NoneMeets m g bound
+Built q m g bound (Err Draw) = ⊥
+Built q m g bound (Err Range) = ⊥
 
 -- the meaning of what was built
 abbrev pub means : {R : Type 0} → (R → Consensus) → Result R RuleFault → Result Consensus RuleFault

@@ -10,39 +10,39 @@ pub record Allowed (q m g : ℕ) : Type 0 where
   pub modulus : Between 2 q 32768
   pub digits : Between 2 m 256
   pub hints : Between 2 g 4096
-  pub room : (m ≤ q) × (g ≤ q)
+  pub within : (m ≤ q) × (g ≤ q)
 
--- ---- the distance: the largest d with (2 * d + 1) * m * g < room, where the room is q * (g - 1) for OKCN and
--- q * (g - m) for AKCN (0 where g is below m)
+-- ---- the distance: the largest d with (2 * d + 1) * m * g < bound, where the bound is q * (g - 1) for OKCN and
+-- q * (g - m) for AKCN (0 where g is below m, so that no d meets it)
 
-abbrev pub Near : (m g room d : ℕ) → Type 0
-Near m g room d = (2 * d + 1) * (m * g) < room
+abbrev pub Meets : (m g bound d : ℕ) → Type 0
+Meets m g bound d = (2 * d + 1) * (m * g) < bound
 
-pub record Largest (m g room d : ℕ) : Type 0 where
-  pub near : Near m g room d
-  pub most : (e : ℕ) → Near m g room e → e ≤ d
+abbrev pub NoneMeets : (m g bound : ℕ) → Type 0
+NoneMeets m g bound = (d : ℕ) → Meets m g bound d → ⊥
 
-abbrev pub None-near : (m g room : ℕ) → Type 0
-None-near m g room = (d : ℕ) → Near m g room d → ⊥
+pub record Largest (m g bound d : ℕ) : Type 0 where
+  pub meets : Meets m g bound d
+  pub most : (e : ℕ) → Meets m g bound e → e ≤ d
 
--- the largest d, where there is one
-abbrev pub widest : (m g room : ℕ) → ℕ
-widest m g room = ((room - 1) / (m * g) - 1) / 2
+-- the largest, where any d meets the bound
+abbrev pub largest-distance : (m g bound : ℕ) → ℕ
+largest-distance m g bound = ((bound - 1) / (m * g) - 1) / 2
 
--- ---- OKCN, optimally balanced consensus with noise
+-- ---- OKCN, optimally balanced key consensus with noise
 
-abbrev pub okcn-room : (q m g : ℕ) → ℕ
-okcn-room q m g = q * (g - 1)
+abbrev pub okcn-bound : (q g : ℕ) → ℕ
+okcn-bound q g = q * (g - 1)
 
--- so many draws that the digits come out even
+-- C, so many draws that the digits are met equally often
 abbrev pub okcn-draws : (q m : ℕ) → ℕ
 okcn-draws q m = m / gcd q m
 
--- s, the sum stretched C-fold and moved by e, the draw less half the draws, around C * q
+-- s, C times the sum, moved by e around C * q, where e is the draw less half of C - 1
 abbrev pub okcn-point : (C q sum draw : ℕ) → ℕ
 okcn-point C q sum draw = let e = pos draw -ℤ pos ((C - 1) / 2) in residue (pos (C * sum) +ℤ e) (C * q)
 
--- C * q is cut into m parts of the width β: the digit is the part that s lies in, the hint tells where in the part
+-- the points from 0 to C * q - 1 are cut into m parts of β: the digit is the part of s, the hint its place in the part
 abbrev pub okcn-cut : (g β s : ℕ) → ℕ × ℕ
 okcn-cut g β s = (s / β, (s % β) * g / β)
 
@@ -58,7 +58,7 @@ okcn q m g = record {
   modulus = q;
   digits = m;
   hints = g;
-  distance = widest m g (okcn-room q m g);
+  distance = largest-distance m g (okcn-bound q g);
   draws = okcn-draws q m;
   settle = okcn-settle (okcn-draws q m) q m g;
   recover = okcn-recover q m g;
@@ -66,8 +66,8 @@ okcn q m g = record {
 
 -- ---- AKCN, asymmetric key consensus with noise: the draw is the digit
 
-abbrev pub akcn-room : (q m g : ℕ) → ℕ
-akcn-room q m g = q * (g - m)
+abbrev pub akcn-bound : (q m g : ℕ) → ℕ
+akcn-bound q m g = q * (g - m)
 
 abbrev pub akcn-hint : (q m g sum digit : ℕ) → ℕ
 akcn-hint q m g sum digit = round (g * (sum + round (q * digit) m)) q % g
@@ -80,7 +80,7 @@ akcn q m g = record {
   modulus = q;
   digits = m;
   hints = g;
-  distance = widest m g (akcn-room q m g);
+  distance = largest-distance m g (akcn-bound q m g);
   draws = m;
   settle = λ sum draw. (draw, akcn-hint q m g sum draw);
   recover = akcn-recover q m g;

@@ -2,7 +2,7 @@
 ghost use mathlib.Core.Path.{_≡_};
 ghost use Prim.Native.Nat.{_≤_};
 ghost use Rattle.consensus.specs.Laws.{Between};
-ghost use Rattle.consensus.specs.Rules.{Near, widest, akcn-room};
+ghost use Rattle.consensus.specs.Rules.{Meets, largest-distance, akcn-bound};
 
 mod methods;
 
@@ -17,7 +17,7 @@ pub struct Akcn {
     ghost modulus: { Between 2 q 32768 },
     ghost digits: { Between 2 m 256 },
     ghost hints: { Between 2 g 4096 },
-    ghost room: { (m ≤ q) × (g ≤ q) },
-    ghost near: { Near m g (akcn-room q m g) d },
-    ghost widest: { d ≡ widest m g (akcn-room q m g) },
+    ghost within: { (m ≤ q) × (g ≤ q) },
+    ghost meets: { Meets m g (akcn-bound q m g) d },
+    ghost largest: { d ≡ largest-distance m g (akcn-bound q m g) },
 }

@@ -2,16 +2,17 @@
 ghost use mathlib.Core.Path.{_≡_};
 ghost use Prim.Native.Nat.{_^_, _<_};
 ghost use lib.IntN.{pos, _-ℤ_};
-ghost use Rattle.consensus.specs.Arithmetic.{residue, floor, round, apart, GreatestDivisor};
+ghost use Rattle.consensus.specs.Arithmetic.{residue, floor, round, apart, gcd, GreatestDivisor};
 
 // The greatest common divisor, found by Euclid's rule.
 pub fn gcd(a: u32, b: u32) -> u32
-    ensures { λ r. ⌜ GreatestDivisor a b r ⌝ }
+    ensures answer { λ r. ⌜ r ≡ gcd a b ⌝ }
+    ensures greatest { λ r. ⌜ GreatestDivisor a b r ⌝ }
 {
     if b == 0 { a } else { gcd(b, a % b) }
 }
 
-// `a / b` to the nearest whole number.
+// `a / b` to the nearest whole number, a half upwards.
 pub(crate) fn round(a: u32, b: u32) -> u32
     requires { ⌜ a < 2 ^ 30 ⌝ ∗ ⌜ 0 < b ⌝ ∗ ⌜ b < 2 ^ 30 ⌝ }
     ensures { λ r. ⌜ r ≡ round a b ⌝ }

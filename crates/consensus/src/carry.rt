@@ -7,26 +7,26 @@ use crate::arithmetic::apart;
 use crate::fault::RuleFault;
 use crate::rule::Rule;
 
-// What became of a digit on its way.
+// The digit on both sides, the hint between them, and how far the sums lie apart.
 #[derive(Clone, Copy, PartialEq, Eq, Debug)]
 pub struct Carried {
-    // What the first side settled on.
+    // What the first side settled.
     pub digit: u16,
     pub hint: u16,
     // What the other side recovered from the hint.
     pub recovered: u16,
-    // How far the two sums lie apart around the modulus.
+    // The distance of the two sums around the modulus.
     pub apart: u32,
 }
 
-// Settles `sum` with `draw`, and recovers from `other` with the hint.
-pub fn carry<R: Rule>(rule: &R, sum: u16, draw: u16, other: u16) -> Result<Carried, RuleFault>
-    ensures answer { λ r. ⌜ r ≡ carry-reply (meaning (now (rule .entry))) sum draw other ⌝ }
+// Settles `sum` with `draw`, and recovers from `second` with the hint.
+pub fn carry<R: Rule>(rule: &R, sum: u16, draw: u16, second: u16) -> Result<Carried, RuleFault>
+    ensures answer { λ r. ⌜ r ≡ carry-reply (meaning (now (rule .entry))) sum draw second ⌝ }
     ensures agrees { λ r. ⌜ made r (λ c. c .apart ≤ meaning (now (rule .entry)) .distance → c .recovered ≡ c .digit) ⌝ }
 {
     let (digit, hint) = rule.settle(sum, draw)?;
-    let recovered = rule.recover(other, hint)?;
-    let apart = apart(rule.modulus(), sum as u32, other as u32);
+    let recovered = rule.recover(second, hint)?;
+    let apart = apart(rule.modulus(), sum as u32, second as u32);
     Ok(Carried {
         digit,
         hint,

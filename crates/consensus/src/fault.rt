@@ -1,6 +1,7 @@
 // Why a rule refused a call.
 ghost use mathlib.Core.Path.{_≡_};
-ghost use Rattle.consensus.specs.Replies.{number, place};
+ghost use Rattle.consensus.specs.Replies.{number, place, words};
+ghost use Rattle.std.specs.declared.option.Option.the-variants.{Some};
 use std::error::Error;
 use std::fmt;
 
@@ -34,16 +35,25 @@ impl RuleFault {
     {
         0
     }
+
+    // What is wrong, in words.
+    pub fn words(&self) -> &'static str
+        ensures { λ r. ⌜ now r ≡ words (now (self .entry)) ⌝ }
+    {
+        match self {
+            RuleFault::Limits => "the numbers of a rule are outside their limits",
+            RuleFault::Distance => "no distance exists for the numbers of a rule",
+            RuleFault::Draw => "a draw is out of range",
+            RuleFault::Range => "a sum or a hint is out of range",
+        }
+    }
 }
 
 pub impl fmt::Display for RuleFault as RuleFaultDisplay {
+    ghost shown = { λ fault. Some (words fault) };
+
     fn fmt<W: fmt::Write>(&self, f: &mut fmt::Formatter<W>) -> fmt::Result {
-        match self {
-            RuleFault::Limits => write!(f, "the numbers of a rule are outside their limits"),
-            RuleFault::Distance => write!(f, "no distance exists for the numbers of a rule"),
-            RuleFault::Draw => write!(f, "a draw is out of range"),
-            RuleFault::Range => write!(f, "a sum or a hint is out of range"),
-        }
+        write!(f, "{}", self.words())
     }
 }
 

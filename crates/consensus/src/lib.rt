@@ -4,7 +4,7 @@ pub mod arithmetic;
 pub mod carry;
 mod distance;
 pub mod evenness;
+pub mod examples;
 pub mod fault;
 pub mod okcn;
 pub mod rule;
-pub mod samples;

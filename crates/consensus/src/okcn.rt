@@ -2,7 +2,7 @@
 ghost use mathlib.Core.Path.{_≡_};
 ghost use Prim.Native.Nat.{_≤_};
 ghost use Rattle.consensus.specs.Laws.{Between};
-ghost use Rattle.consensus.specs.Rules.{Near, widest, okcn-room, okcn-draws};
+ghost use Rattle.consensus.specs.Rules.{Meets, largest-distance, okcn-bound, okcn-draws};
 
 mod methods;
 
@@ -18,8 +18,8 @@ pub struct Okcn {
     ghost modulus: { Between 2 q 32768 },
     ghost digits: { Between 2 m 256 },
     ghost hints: { Between 2 g 4096 },
-    ghost room: { (m ≤ q) × (g ≤ q) },
-    ghost near: { Near m g (okcn-room q m g) d },
-    ghost widest: { d ≡ widest m g (okcn-room q m g) },
+    ghost within: { (m ≤ q) × (g ≤ q) },
+    ghost meets: { Meets m g (okcn-bound q g) d },
+    ghost largest: { d ≡ largest-distance m g (okcn-bound q g) },
     ghost drawn: { c ≡ okcn-draws q m },
 }

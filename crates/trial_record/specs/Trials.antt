@@ -9,7 +9,7 @@ use Rattle.std.specs.declared.result.Result.{Result}
 use Rattle.std.specs.declared.result.Result.the-variants.{Ok, Err}
 use Rattle.consensus.specs.Carried.{carry-reply}
 use Rattle.consensus.specs.Consensus.{Consensus}
-use Rattle.consensus.specs.Replies.{check, okcn-built, akcn-built}
+use Rattle.consensus.specs.Replies.{check, followed, okcn-built, akcn-built}
 use Rattle.consensus.specs.declared.fault.RuleFault.{RuleFault}
 use Rattle.trial_record.specs.declared.fault.TrialFault.{TrialFault}
 use Rattle.trial_record.specs.declared.fault.TrialFault.the-variants.{Refused, UnknownRule, CutShort}
@@ -28,7 +28,7 @@ record-at bytes = record {
   g = word bytes 6;
   sum = word bytes 8;
   draw = word bytes 10;
-  other = word bytes 12;
+  second = word bytes 12;
 }
 
 abbrev pub read-reply : List ℕ → Result Record TrialFault
@@ -44,22 +44,17 @@ attempt c r =
       recovered = carried .recovered;
       distance = c .distance;
     })
-    (λ fault. fault) (carry-reply c (r .sum) (r .draw) (r .other))
+    (λ fault. fault) (carry-reply c (r .sum) (r .draw) (r .second))
 
 -- the same by a rule that may not have been built
 abbrev pub attempt-with : Result Consensus RuleFault → Record → Result Outcome TrialFault
-attempt-with (Ok c) r = mapped (λ outcome. outcome) Refused (attempt c r)
-attempt-with (Err fault) r = Err (Refused fault)
+attempt-with built r = mapped (λ outcome. outcome) Refused (followed built (λ c. attempt c r))
 
 -- 1 is OKCN, 2 is AKCN
 abbrev pub run-reply : Record → Result Outcome TrialFault
 run-reply r =
     cond (eqb (r .rule) 1) (attempt-with (okcn-built (r .q) (r .m) (r .g)) r)
     (cond (eqb (r .rule) 2) (attempt-with (akcn-built (r .q) (r .m) (r .g)) r) (Err UnknownRule))
-
-abbrev pub followed : {X Y F : Type 0} → Result X F → (X → Result Y F) → Result Y F
-followed (Ok x) next = next x
-followed (Err fault) next = Err fault
 
 abbrev pub record-reply : List ℕ → Result Outcome TrialFault
 record-reply bytes = followed (read-reply bytes) run-reply

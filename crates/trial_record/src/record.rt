@@ -23,7 +23,7 @@ pub struct Record {
     pub g: u16,
     pub sum: u16,
     pub draw: u16,
-    pub other: u16,
+    pub second: u16,
 }
 
 // The digit and the hint that were settled, the digit that was recovered, and the rule's distance.
@@ -40,7 +40,7 @@ impl Record {
     pub fn read(bytes: &[u8]) -> Result<Record, TrialFault>
         ensures { λ r. ⌜ r ≡ read-reply (now (bytes .entry)) ⌝ }
     {
-        let [r1, r0, q1, q0, m1, m0, g1, g0, s1, s0, d1, d0, o1, o0, ..] = bytes else {
+        let [r1, r0, q1, q0, m1, m0, g1, g0, s1, s0, d1, d0, t1, t0, ..] = bytes else {
             return Err(TrialFault::CutShort);
         };
         Ok(Record {
@@ -50,14 +50,14 @@ impl Record {
             g: *g1 as u16 * 256 + *g0 as u16,
             sum: *s1 as u16 * 256 + *s0 as u16,
             draw: *d1 as u16 * 256 + *d0 as u16,
-            other: *o1 as u16 * 256 + *o0 as u16,
+            second: *t1 as u16 * 256 + *t0 as u16,
         })
     }
 
-    // Builds the rule, settles the sum with the draw, and recovers from the other sum.
+    // Builds the rule, settles the sum with the draw, and recovers from the second sum.
     pub fn run(&self) -> Result<Outcome, TrialFault>
         ensures answer { λ r. ⌜ r ≡ run-reply (now (self .entry)) ⌝ }
-        ensures agrees { λ r. ⌜ made r (λ o. apart (now (self .entry) .q) (now (self .entry) .sum) (now (self .entry) .other) ≤ o .distance → o .recovered ≡ o .digit) ⌝ }
+        ensures agrees { λ r. ⌜ made r (λ o. apart (now (self .entry) .q) (now (self .entry) .sum) (now (self .entry) .second) ≤ o .distance → o .recovered ≡ o .digit) ⌝ }
     {
         let q = self.q as u32;
         let m = self.m as u32;
@@ -72,9 +72,9 @@ impl Record {
 
 fn attempt<R: Rule>(rule: &R, numbers: &Record) -> Result<Outcome, RuleFault>
     ensures answer { λ r. ⌜ r ≡ attempt (R·Rule .meaning (now (rule .entry))) (now (numbers .entry)) ⌝ }
-    ensures agrees { λ r. ⌜ made r (λ o. apart (R·Rule .meaning (now (rule .entry)) .modulus) (now (numbers .entry) .sum) (now (numbers .entry) .other) ≤ o .distance → o .recovered ≡ o .digit) ⌝ }
+    ensures agrees { λ r. ⌜ made r (λ o. apart (R·Rule .meaning (now (rule .entry)) .modulus) (now (numbers .entry) .sum) (now (numbers .entry) .second) ≤ o .distance → o .recovered ≡ o .digit) ⌝ }
 {
-    let carried = carry(rule, numbers.sum, numbers.draw, numbers.other)?;
+    let carried = carry(rule, numbers.sum, numbers.draw, numbers.second)?;
     Ok(Outcome {
         digit: carried.digit,
         hint: carried.hint,

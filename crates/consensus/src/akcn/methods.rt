@@ -2,11 +2,11 @@
 ghost use mathlib.Core.Path.{_≡_};
 ghost use Rattle.consensus.specs.Meanings.{akcn-of};
 ghost use Rattle.consensus.specs.Replies.{means, akcn-built, Built};
-ghost use Rattle.consensus.specs.Rules.{akcn-room};
+ghost use Rattle.consensus.specs.Rules.{akcn-bound};
 use crate::akcn::Akcn;
 use crate::arithmetic::floor_mod;
 use crate::arithmetic::round;
-use crate::distance::reach;
+use crate::distance::distance_of;
 use crate::fault::RuleFault;
 use crate::rule::Rule;
 
@@ -14,9 +14,9 @@ impl Akcn {
     // The rule with modulus q, m digits and g hints.
     pub fn new(q: u32, m: u32, g: u32) -> Result<Akcn, RuleFault>
         ensures answer { λ r. ⌜ means akcn-of r ≡ akcn-built q m g ⌝ }
-        ensures exactly { λ r. ⌜ Built q m g (akcn-room q m g) (means akcn-of r) ⌝ }
+        ensures exactly { λ r. ⌜ Built q m g (akcn-bound q m g) (means akcn-of r) ⌝ }
     {
-        let d = reach(q, m, g, m)?;
+        let d = distance_of(q, m, g, m)?;
         Ok(Akcn { q, m, g, d })
     }
 }

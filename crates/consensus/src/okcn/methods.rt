@@ -2,11 +2,11 @@
 ghost use mathlib.Core.Path.{_≡_};
 ghost use Rattle.consensus.specs.Meanings.{okcn-of};
 ghost use Rattle.consensus.specs.Replies.{means, okcn-built, Built};
-ghost use Rattle.consensus.specs.Rules.{okcn-room};
+ghost use Rattle.consensus.specs.Rules.{okcn-bound};
 use crate::arithmetic::difference_mod;
 use crate::arithmetic::floor_mod;
 use crate::arithmetic::gcd;
-use crate::distance::reach;
+use crate::distance::distance_of;
 use crate::fault::RuleFault;
 use crate::okcn::Okcn;
 use crate::rule::Rule;
@@ -15,9 +15,9 @@ impl Okcn {
     // The rule with modulus q, m digits and g hints.
     pub fn new(q: u32, m: u32, g: u32) -> Result<Okcn, RuleFault>
         ensures answer { λ r. ⌜ means okcn-of r ≡ okcn-built q m g ⌝ }
-        ensures exactly { λ r. ⌜ Built q m g (okcn-room q m g) (means okcn-of r) ⌝ }
+        ensures exactly { λ r. ⌜ Built q m g (okcn-bound q g) (means okcn-of r) ⌝ }
     {
-        let d = reach(q, m, g, 1)?;
+        let d = distance_of(q, m, g, 1)?;
         let c = m / gcd(q, m);
         Ok(Okcn { q, m, g, d, c })
     }

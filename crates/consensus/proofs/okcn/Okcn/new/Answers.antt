@@ -1,29 +1,33 @@
-use mathlib.Core.Path.{refl, ap}
-use Prim.Native.Nat.{ℕ, _/_, _<_}
+use mathlib.Core.Path.{refl, sym, ap, subst}
+use Prim.Native.Nat.{ℕ, _/_}
 use native.Mathlib.Nat.{pos-of-dvd-of-pos}
 use native.Mathlib.Omega.{arith}
-use Rattle.consensus.specs.Rules.{okcn, okcn-room}
-use Rattle.consensus.proofs.Building.{Reached, granted, reached}
-use Rattle.consensus.proofs.Divisors.{gcd-is}
+use Rattle.consensus.specs.Replies.{Built}
+use Rattle.consensus.specs.Rules.{Meets, okcn, okcn-bound}
+use Rattle.consensus.proofs.Building.{granted, built-alike, built-is}
 use Rattle.consensus.proofs.okcn.Okcn.new.Needs as need
 
-numbers : (c : need.After-gcd) → Reached (c .args .q) (c .args .m) (c .args .g) (okcn-room (c .args .q) (c .args .m) (c .args .g)) (c .in-Continue-d .d)
-numbers c = reached (c .args .q) (c .args .m) (c .args .g) (okcn-room (c .args .q) (c .args .m) (c .args .g)) (c .in-Continue-d .d) (c .in-Continue-d .ensures tt)
-
-some-digit : (c : need.After-gcd) → 0 < c .args .m
-some-digit c = let limits = numbers c .allowed in omega arith
-
 pub div-c : need.div-c
-div-c c = pos-of-dvd-of-pos (c .gcd .ensures .right) (some-digit c)
+div-c c =
+    let x = c .args in
+    let (numbers, is) = granted (x .q) (x .m) (x .g) (okcn-bound (x .q) (x .g)) _ (c .in-Continue-d .d) (c .in-Continue-d .ensures tt) in
+    let limits = numbers .allowed in
+    pos-of-dvd-of-pos (c .gcd .ensures .greatest .right) (omega arith)
 
 pub ghost-result : need.ghost-result
 ghost-result c =
-    let r = numbers c in
-    let draws = ap (λ (d : ℕ). c .args .m / d) (gcd-is (c .args .q) (c .args .m) (c .gcd .result) (some-digit c) (c .gcd .ensures)) in
-    (r .allowed .modulus, (r .allowed .digits, (r .allowed .hints, (r .allowed .room, (r .near, (r .is, (draws, tt)))))))
+    let x = c .args in
+    let bound = okcn-bound (x .q) (x .g) in
+    let (numbers, is) = granted (x .q) (x .m) (x .g) bound _ (c .in-Continue-d .d) (c .in-Continue-d .ensures tt) in
+    let limits = numbers .allowed in
+    let meets = subst (Meets (x .m) (x .g) bound) (sym is) (numbers .largest .meets) in
+    let draws = ap (λ (n : ℕ). x .m / n) (c .gcd .ensures .answer) in
+    (limits .modulus, (limits .digits, (limits .hints, (limits .within, (meets, (is, (draws, tt)))))))
 
 pub returns : need.returns
 returns c =
     let x = c .args in
-    let (answer, exactly) = granted (okcn (x .q) (x .m) (x .g)) (x .q) (x .m) (x .g) (okcn-room (x .q) (x .m) (x .g)) (c .in-Continue-d .d) refl (c .in-Continue-d .ensures tt) in
-    record { answer = answer; exactly = exactly }
+    let bound = okcn-bound (x .q) (x .g) in
+    let rule = okcn (x .q) (x .m) (x .g) in
+    let answer = built-alike (x .q) (x .m) (x .g) bound _ (c .in-Continue-d .d) rule (c .in-Continue-d .ensures tt) in
+    record { answer = answer; exactly = subst (Built (x .q) (x .m) (x .g) bound) (sym answer) (built-is rule (x .q) (x .m) (x .g) bound refl) }

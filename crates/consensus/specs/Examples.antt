@@ -2,16 +2,18 @@
 use Prim.Native.Nat.{_/_}
 use mathlib.Core.List.{[], _∷_}
 use mathlib.Core.Path.{_≡_}
+use lib.IntN.{negsuc}
 use Rattle.std.specs.declared.result.Result.the-variants.{Ok, Err}
+use Rattle.consensus.specs.Arithmetic.{residue, floor, apart}
 use Rattle.consensus.specs.Consensus.{Consensus}
 use Rattle.consensus.specs.Evenness.{Even, ways, ways-all}
 use Rattle.consensus.specs.Replies.{okcn-built, akcn-built}
 use Rattle.consensus.specs.Rules.{okcn, akcn}
-use Rattle.consensus.specs.declared.fault.RuleFault.the-variants.{Distance}
+use Rattle.consensus.specs.declared.fault.RuleFault.the-variants.{Limits, Distance}
 
--- a rule that is not even: three sums cut into two digits, with no draw to share them out
-abbrev pub lopsided : Consensus
-lopsided = record {
+-- a rule that breaks evenness: three sums cut into two digits, with no draw to share them out
+abbrev pub uneven : Consensus
+uneven = record {
   modulus = 3;
   digits = 2;
   hints = 1;
@@ -21,7 +23,11 @@ lopsided = record {
   recover = λ sum hint. sum / 2;
 }
 
-pub record Samples : Type 0 where
+pub record Examples : Type 0 where
+  -- remainders and quotients of negative numbers, and the way around the modulus
+  pub negative-residue : residue (negsuc 2) 16 ≡ 13
+  pub negative-floor : floor (negsuc 2) 2 ≡ negsuc 1
+  pub around-zero : apart 16 1 15 ≡ 2
   -- OKCN with q 16, m 4, g 8
   pub sixteen : okcn-built 16 4 8 ≡ Ok (okcn 16 4 8)
   pub sixteen-draws : okcn 16 4 8 .draws ≡ 1
@@ -49,12 +55,21 @@ pub record Samples : Type 0 where
   pub chosen-zero : akcn 11 2 8 .settle 5 0 ≡ (0, 4)
   pub chosen-one-back : akcn 11 2 8 .recover 6 0 ≡ 1
   pub chosen-zero-back : akcn 11 2 8 .recover 6 4 ≡ 0
-  -- the edge of building
+  -- here the numerator of recovering is a half, and rounds upwards
+  pub chosen-half : akcn 11 2 8 .recover 0 2 ≡ 1
+  pub exact-half : okcn 4 2 3 .recover 2 1 ≡ 1
+  -- the edge of building: the distance
   pub four-refused : okcn-built 4 2 2 ≡ Err Distance
   pub five-built : okcn-built 5 2 2 ≡ Ok (okcn 5 2 2)
   pub five-distance : okcn 5 2 2 .distance ≡ 0
   pub chosen-refused : akcn-built 16 4 4 ≡ Err Distance
   pub large-built : okcn-built 16384 16 1024 ≡ Ok (okcn 16384 16 1024)
   pub large-distance : okcn 16384 16 1024 .distance ≡ 510
-  -- evenness is no idle law
-  pub uneven : Even lopsided → ⊥
+  -- the edge of building: the limits
+  pub largest-numbers : okcn-built 32768 256 4096 ≡ Ok (okcn 32768 256 4096)
+  pub modulus-limits : (okcn-built 1 2 2 ≡ Err Limits) × (okcn-built 32769 2 3 ≡ Err Limits)
+  pub digit-limits : (okcn-built 32768 1 3 ≡ Err Limits) × (okcn-built 32768 257 3 ≡ Err Limits)
+  pub hint-limits : (okcn-built 32768 2 1 ≡ Err Limits) × (okcn-built 32768 2 4097 ≡ Err Limits)
+  pub modulus-passed : (akcn-built 16 17 2 ≡ Err Limits) × (akcn-built 16 2 17 ≡ Err Limits)
+  -- not every rule is even
+  pub not-even : Even uneven → ⊥
