@@ -8,7 +8,7 @@ use crate::fault::RuleFault;
 use crate::rule::Rule;
 
 // The digit on both sides, the hint between them, and how far the sums lie apart.
-#[derive(Clone, Copy, PartialEq, Eq, Debug)]
+#[derive(Clone, Copy)]
 pub struct Carried {
     // What the first side settled.
     pub digit: u16,
