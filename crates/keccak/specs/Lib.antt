@@ -1,0 +1,4 @@
+pub mod Rotation
+pub mod Permutation
+pub mod Sponge
+pub mod KnownOutputs

@@ -1,0 +1,4 @@
+pub mod Building
+pub mod Entries
+pub mod Powers
+pub mod Seeds
