@@ -1,3 +1,4 @@
+pub mod Complements
 pub mod Bytes
 pub mod Padding
 pub mod Rotations

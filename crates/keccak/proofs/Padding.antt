@@ -11,7 +11,7 @@ use Rattle.keccak.specs.Sponge.{rate, padding, pad, nth-block}
 
 -- ---- the last block as the code makes it
 
--- two writes turn the zeros after the message's end into the padding
+-- two writes turn the zeros after the end of m into the padding
 two-writes : (m : List ℕ) (n k last : ℕ) → length m ≡ n → n + k ≡ last
     → set (set (m ++ replicate (suc k) 0) n 0x1f) last (getD (set (m ++ replicate (suc k) 0) n 0x1f) last 0 ⊕ 0x80)
     ≡ m ++ padding (suc k)

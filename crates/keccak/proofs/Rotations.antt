@@ -10,7 +10,7 @@ use Rattle.std.proofs.shelf.Bits.{pow-pos, shl-shr, shr-shr, shr-le, field-of, 
 use Rattle.std.proofs.shelf.Tests.{cases-lt}
 use Rattle.keccak.specs.Rotation.{rotate, bit}
 
--- a number that is cut to n bits keeps those
+-- a number that is cut to n bits keeps its bits below n
 bit-cut : (w n z : ℕ) → z < n → bit (w % 2 ^ n) z ≡ bit w z
 bit-cut w n z h =
     let j : ℕ = n - z - 1 in

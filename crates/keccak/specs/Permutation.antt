@@ -2,7 +2,7 @@
 -- 2 ^ 64: lane (x, y) stands at 5 * y + x, and its bit z is A[x, y, z]. Coordinates are taken modulo 5. Assumes nothing.
 use Prim.Native.Nat.{ℕ, zero, suc, _+_, _-_, _*_, _/_, _%_, _^_}
 use mathlib.Core.Bool.{cond, _&&_}
-use mathlib.Core.List.{List, map}
+use mathlib.Core.List.{List, [], _∷_, map}
 use lib.Bits.{bitAnd, bitXor}
 use lib.Dec.{eqb, ltb}
 use lib.ListN.{getD, set}
@@ -26,14 +26,15 @@ lanes f = map (λ k. f (k % 5) (k / 5)) (counting 0 25)
 
 -- ---- theta
 
--- C[x], the parity of each column
+-- C[x], the parities of the columns at x
 abbrev pub column-parity : List ℕ → (x : ℕ) → ℕ
 column-parity a x = lane a x 0 ⊕ lane a x 1 ⊕ lane a x 2 ⊕ lane a x 3 ⊕ lane a x 4
 
--- D[x]: C[x - 1], which is C[x + 4], and C[x + 1] rotated by one
+-- D[x]: C[x - 1], where x - 1 is x + 4 modulo 5, and C[x + 1] rotated by one
 unfoldable pub theta-effect : List ℕ → (x : ℕ) → ℕ
 theta-effect a x = column-parity a (x + 4) ⊕ rotate (column-parity a (x + 1)) 1
 
+-- D[0] to D[4]
 abbrev pub theta-effects : List ℕ → List ℕ
 theta-effects a = map (theta-effect a) (counting 0 5)
 
@@ -43,7 +44,7 @@ theta a = lanes (λ x y. lane a x y ⊕ theta-effect a x)
 -- ---- rho
 
 -- A walk starts at lane (1, 0), goes from (x, y) to (y, 2 * x + 3 * y), and meets every lane but (0, 0) once. The lane that it
--- meets after t steps is rotated by (t + 1) * (t + 2) / 2. Here it is at (u, v) and has `left` lanes to meet.
+-- meets after t steps is rotated by (t + 1) * (t + 2) / 2. Here it has come to (u, v), with `left` lanes still to meet.
 abbrev pub offset-from : (left t u v x y : ℕ) → ℕ
 offset-from zero t u v x y = 0
 offset-from (suc left) t u v x y =
@@ -62,12 +63,21 @@ pi a = lanes (λ x y. lane a (x + 3 * y) x)
 
 -- ---- chi
 
+-- a lane u, before v and w in its row
+abbrev pub chi-lane : (u v w : ℕ) → ℕ
+chi-lane u v w = u ⊕ bitAnd (complement v) w
+
 unfoldable pub chi : List ℕ → List ℕ
-chi a = lanes (λ x y. lane a x y ⊕ bitAnd (complement (lane a (x + 1) y)) (lane a (x + 2) y))
+chi a = lanes (λ x y. chi-lane (lane a x y) (lane a (x + 1) y) (lane a (x + 2) y))
+
+-- one row, from its five lanes
+abbrev pub chi-row : (a b c d e : ℕ) → List ℕ
+chi-row a b c d e = chi-lane a b c ∷ chi-lane b c d ∷ chi-lane c d e ∷ chi-lane d e a ∷ chi-lane e a b ∷ []
 
 -- ---- iota
 
--- the shift register after t steps, R[j] as bit j: a step shifts it, and where a bit comes out, bits 0, 4, 5 and 6 flip
+-- the shift register R after t steps, R[j] as bit j: a step shifts it, and where bit 8 is then set, clears that bit and flips
+-- bits 0, 4, 5 and 6
 abbrev pub register : (t : ℕ) → ℕ
 register zero = 1
 register (suc t) = let shifted = 2 * register t in cond (ltb shifted 0x100) shifted (shifted ⊕ 0x171)

@@ -1,4 +1,4 @@
--- SHAKE128 of FIPS 202 on bytes: the sponge over the permutation with a rate of 168 bytes (1344 bits) and a capacity of 32.
+-- SHAKE128 of FIPS 202 on bytes: the sponge over the permutation, with a rate of 1344 bits and a capacity of 256.
 -- Bit i of a string is bit i % 8 of its byte i / 8, so a lane is eight bytes, the lowest first. Assumes nothing.
 use Prim.Native.Nat.{ℕ, zero, suc, _+_, _-_, _*_, _/_, _%_}
 use mathlib.Core.Bool.{cond}
@@ -9,6 +9,7 @@ use Rattle.std.specs.Iters.{counting}
 use Rattle.std.specs.Joined.{joined}
 use Rattle.keccak.specs.Permutation.{_⊕_, permute}
 
+-- in bytes
 abbrev pub rate : ℕ
 rate = 168
 
@@ -24,13 +25,14 @@ to-bytes (suc n) w = w % 256 ∷ to-bytes n (w / 256)
 
 -- ---- padding
 
--- what fills the last n bytes of a block: the bits 1111 that mark SHAKE, then 1, as many 0 as fit, and 1
+-- what fills the last n bytes of the last block: the bits 1111 that mark SHAKE, then 1, zeros and 1, each byte from its lowest
+-- bit on
 abbrev pub padding : (n : ℕ) → List ℕ
 padding zero = []
 padding (suc zero) = 0x9f ∷ []
 padding (suc (suc n)) = 0x1f ∷ (replicate n 0 ++ 0x80 ∷ [])
 
--- the message and its padding, a whole number of blocks
+-- the message and its padding: a whole number of blocks, and always a byte of padding
 unfoldable pub pad : List ℕ → List ℕ
 pad m = m ++ padding (rate - length m % rate)
 
@@ -42,7 +44,7 @@ nth-block p i = take rate (drop (rate * i) p)
 abbrev pub block-lane : List ℕ → (k : ℕ) → ℕ
 block-lane b k = from-bytes (take 8 (drop (8 * k) b))
 
--- a block is added to the first 21 lanes, and the others stay
+-- a block is XORed into the first 21 lanes, and the lanes of the capacity stay
 unfoldable pub xor-block : List ℕ → List ℕ → List ℕ
 xor-block s b = map (λ k. cond (ltb k 21) (getD s k 0 ⊕ block-lane b k) (getD s k 0)) (counting 0 25)
 
@@ -56,15 +58,15 @@ absorb m = absorb-blocks (pad m) (length (pad m) / rate)
 
 -- ---- squeezing
 
--- the first 168 bytes of a state, those of its first 21 lanes
+-- the bytes of the first 21 lanes
 unfoldable pub output-block : List ℕ → List ℕ
 output-block s = joined (to-bytes 8) (take 21 s)
 
--- n blocks of output
+-- n blocks of output, with a permutation between each two
 unfoldable pub squeeze : (n : ℕ) → List ℕ → List ℕ
 squeeze zero s = []
 squeeze (suc n) s = output-block s ++ squeeze n (permute s)
 
--- the first d bytes of SHAKE128, from as many blocks as they take
+-- the first d bytes, of as many blocks as they take
 unfoldable pub shake128 : List ℕ → (d : ℕ) → List ℕ
 shake128 m d = take d (squeeze ((d + (rate - 1)) / rate) (absorb m))

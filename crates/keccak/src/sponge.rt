@@ -1,14 +1,15 @@
-// SHAKE128: the sponge over the permutation, with a rate of 168 bytes, which are 21 lanes.
+// SHAKE128: the sponge over the permutation, with a rate of 168 bytes.
 ghost use mathlib.Core.Path.{_≡_};
 ghost use mathlib.Core.List.{_++_};
 ghost use Prim.Native.Nat.{_+_, _-_, _*_, _<_, _≤_};
 ghost use lib.ListN.{length, take};
+ghost use Rattle.keccak.specs.Permutation.{permute};
 ghost use Rattle.keccak.specs.Sponge.{rate, block-lane, xor-block, padding, absorb, output-block, shake128};
-use crate::permutation::permute;
+use crate::permutation::permute_in_place;
 
 const RATE: usize = 168;
 
-const RATE_LANES: usize = 21;
+const RATE_LANES: usize = RATE / 8;
 
 // Lane k of a block: eight bytes, the lowest first.
 fn block_lane(block: &[u8], k: usize) -> u64
@@ -27,14 +28,15 @@ fn block_lane(block: &[u8], k: usize) -> u64
     ])
 }
 
-fn xor_block(mut state: [u64; 25], block: &[u8]) -> [u64; 25]
+// XORs a block into the state, and permutes it.
+fn absorb_block(state: &mut [u64; 25], block: &[u8])
     requires { ⌜ length (now block) ≡ rate ⌝ }
-    ensures { λ r. ⌜ r ≡ xor-block state (now (block .entry)) ⌝ }
+    ensures { λ _. ⌜ now (state .exit) ≡ permute (xor-block (now (state .entry)) (now (block .entry))) ⌝ }
 {
     for k in 0..RATE_LANES {
         state[k] ^= block_lane(block, k);
     }
-    state
+    permute_in_place(state);
 }
 
 // The last block: the rest of the message, and the padding.
@@ -46,24 +48,25 @@ fn last_block(rest: &[u8]) -> [u8; RATE]
     let mut block = [0; RATE];
     block[0..n].copy_from_slice(rest);
     block[n] = 0x1f;
-    // The same byte as the one before, where the rest leaves one byte.
+    // Where one byte is left to fill, it is the same one.
     block[RATE - 1] ^= 0x80;
     block
 }
 
+// The state that has absorbed the padded message.
 fn absorb(message: &[u8]) -> [u64; 25]
     ensures { λ r. ⌜ r ≡ absorb (now (message .entry)) ⌝ }
 {
     let full = message.len() / RATE;
     let mut state = [0; 25];
     for i in 0..full {
-        let next = permute(xor_block(state, &message[RATE * i..RATE * i + RATE]));
-        state = next;
+        absorb_block(&mut state, &message[RATE * i..RATE * i + RATE]);
     }
-    let last = last_block(&message[RATE * full..]);
-    permute(xor_block(state, &last))
+    absorb_block(&mut state, &last_block(&message[RATE * full..]));
+    state
 }
 
+// The bytes of the lanes that the rate takes up.
 fn output_block(state: [u64; 25]) -> [u8; RATE]
     ensures { λ r. ⌜ r ≡ output-block state ⌝ }
 {
@@ -74,7 +77,7 @@ fn output_block(state: [u64; 25]) -> [u8; RATE]
     block
 }
 
-// Fills a part of the output, which is one block or the front of one.
+// Fills one block of the output, or the front of one.
 fn write_block(state: [u64; 25], part: &mut [u8])
     requires { ⌜ length (now part) ≤ rate ⌝ }
     ensures { λ _. ⌜ now (part .exit) ≡ take (length (now (part .entry))) (output-block state) ⌝ }
@@ -92,12 +95,11 @@ pub fn shake128(message: &[u8], out: &mut [u8])
         return;
     }
     let mut state = absorb(message);
-    // The last block, whole or not, stands apart: the state is not permuted after it.
+    // The last block, whole or not, stands apart, so that the state is not permuted after it.
     let before = (out.len() - 1) / RATE;
     for i in 0..before {
         write_block(state, &mut out[RATE * i..RATE * i + RATE]);
-        let next = permute(state);
-        state = next;
+        permute_in_place(&mut state);
     }
     write_block(state, &mut out[RATE * before..]);
 }

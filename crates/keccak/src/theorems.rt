@@ -1,10 +1,10 @@
 // What ties the definitions to the standard.
 ghost use Rattle.keccak.specs.KnownOutputs.{KnownOutputs};
-ghost use Rattle.keccak.specs.Rotation.{RotatesBits};
+ghost use Rattle.keccak.specs.Rotation.{RotationMovesBits};
 
 // Does nothing: that it is proved says that a lane rotated by n has each bit n places on, modulo 64.
-pub fn lanes_rotate()
-    ensures { λ _. ⌜ RotatesBits ⌝ }
+pub fn rotation_moves_bits()
+    ensures { λ _. ⌜ RotationMovesBits ⌝ }
 {}
 
 // Does nothing: that it is proved says that known outputs of SHAKE128 follow from the definitions.

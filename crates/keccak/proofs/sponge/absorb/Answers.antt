@@ -29,6 +29,7 @@ pub returns : need.returns
 unfolding absorb
 returns c =
     let m = c .args .message .now in
-    let q = length m / rate in
-    let e : c .loop-i .i ≡ q = omega arith in
-    cc (absorb-more (pad m) q, blocks-of-pad m, padded-block m (take (length m - rate * q) (drop (rate * q) m)) q refl (take-rest m (rate * q)))
+    let n = length m / rate in
+    let e : c .loop-i .i ≡ n = omega arith in
+    let last = padded-block m (take (length m - rate * n) (drop (rate * n) m)) n refl (take-rest m (rate * n)) in
+    cc (absorb-more (pad m) n, blocks-of-pad m)

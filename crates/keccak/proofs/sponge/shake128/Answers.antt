@@ -11,7 +11,7 @@ use Rattle.std.proofs.shelf.Parts.{take-putMid}
 use Rattle.std.proofs.shelf.Tests.{eqb-true}
 use Rattle.std.specs.Joined.{joined}
 use Rattle.keccak.specs.Permutation.{permute}
-use Rattle.keccak.specs.Sponge.{rate, to-bytes, output-block, squeeze, shake128}
+use Rattle.keccak.specs.Sponge.{rate, to-bytes, absorb, output-block, squeeze, shake128}
 use Rattle.keccak.proofs.sponge.shake128.Needs as need
 
 length-joined : (s : List ℕ) → length (joined (to-bytes 8) s) ≡ 8 * length s
@@ -22,19 +22,23 @@ length-output : (s : List ℕ) → length (output-block s) ≤ rate
 unfolding output-block
 length-output s = omega (arith, length-joined (take 21 s), length-take 21 s)
 
--- the next block, where n are to come after the one at i
+-- block i of n + 1
 squeeze-more : (n i : ℕ) (s : List ℕ) → i ≤ n → squeeze (n + 1 - i) s ≡ output-block s ++ squeeze (n + 1 - (i + 1)) (permute s)
 unfolding squeeze
 squeeze-more n i s h =
     let e : n + 1 - i ≡ suc (n + 1 - (i + 1)) = omega arith in rw e
 
--- with n blocks written, the rest is the front of the next one
-last-part : (n x : ℕ) (front s start : List ℕ) → length front ≡ rate * n → front ++ squeeze (n + 1 - n) s ≡ squeeze (n + 1) start
-    → take (rate * n + x) (squeeze (n + 1) start) ≡ front ++ take x (output-block s)
-unfolding squeeze
-last-part n x front s start long e =
+-- with n blocks written, the rest of the output is the front of the last one
+last-part : (m : List ℕ) (d n : ℕ) (front s : List ℕ) → 0 < d → n ≡ (d - 1) / rate → length front ≡ rate * n
+    → front ++ squeeze (n + 1 - n) s ≡ squeeze (n + 1) (absorb m)
+    → front ++ take (d - rate * n) (output-block s) ≡ shake128 m d
+unfolding squeeze shake128
+last-part m d n front s some e long inv =
+    let all : (d + (rate - 1)) / rate ≡ n + 1 = omega arith in
     let one : n + 1 - n ≡ 1 = omega arith in
-    rw (← e, one, append-nil, ← long) (take-append-add front (output-block s) x)
+    let cut : length front + (d - rate * n) ≡ d = omega arith in
+    rw (all, ← inv, one, append-nil)
+    (sym (take-append-add front (output-block s) (d - rate * n)) ∙ ap (λ k. take k (front ++ output-block s)) cut)
 
 put-end : (a : ℕ) (xs ys : List ℕ) → a ≤ length xs → putMid a (length xs - a) xs ys ≡ take a xs ++ ys
 put-end a xs ys h =
@@ -69,7 +73,6 @@ loop-i-again c =
     cc (append-assoc (take (rate * i) out) part (squeeze (n + 1 - (i + 1)) (permute s)))
 
 pub returns : need.returns
-unfolding shake128
 returns c =
     let d = length (c .args .out .now) in
     let n = (d - 1) / rate in
@@ -78,12 +81,9 @@ returns c =
     let part = c .write-block-2 .last .part in
     let some : 0 < d = search needs in
     let e : c .loop-i .i ≡ n = omega arith in
-    let all : (d + 167) / rate ≡ n + 1 = omega arith in
-    let cut : rate * n + (d - rate * n) ≡ d = omega arith in
+    let inv = rw (e, c .absorb-state .ensures) at (c .loop-i .inv) in
     let long : length (take (length out - rate * n) (drop (rate * n) out)) ≡ d - rate * n = simp (length-take, length-drop) (omega arith) in
     let is : part ≡ take (d - rate * n) (output-block s) = c .write-block-2 .ensures ∙ ap (λ k. take k (output-block s)) long in
-    let written = put-end (rate * n) out part (omega arith) in
-    let inv = rw e at (c .loop-i .inv) in
-    let last =
-    last-part n (d - rate * n) (take (rate * n) out) s (c .absorb-state .result) (length-take-le (rate * n) out (omega arith)) inv in
-    cc
+    put-end (rate * n) out part (omega arith)
+    ∙ (ap (λ r. take (rate * n) out ++ r) is
+    ∙ last-part (c .args .message .now) d n (take (rate * n) out) s some refl (length-take-le (rate * n) out (omega arith)) inv)

@@ -4,7 +4,7 @@ use Prim.Native.Nat.{ℕ, _+_}
 use native.Mathlib.Numerals.{add-one}
 use native.Mathlib.Omega.{arith}
 use Rattle.keccak.specs.Permutation.{round, rounds, permute}
-use Rattle.keccak.proofs.permutation.permute.Needs as need
+use Rattle.keccak.proofs.permutation.permute_in_place.Needs as need
 
 rounds-more : (a : List ℕ) (n : ℕ) → rounds a (n + 1) ≡ round (rounds a n) n
 unfolding rounds
@@ -15,7 +15,7 @@ unfolding rounds
 loop-i-holds c = refl
 
 pub loop-i-again : need.loop-i-again
-loop-i-again c = cc (rounds-more (c .args .state) (c .loop-i .i))
+loop-i-again c = cc (rounds-more (c .args .state .now) (c .loop-i .i))
 
 pub returns : need.returns
 unfolding permute

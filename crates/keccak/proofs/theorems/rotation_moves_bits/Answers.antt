@@ -1,5 +1,5 @@
 use Rattle.keccak.proofs.Rotations.{fits, moves}
-use Rattle.keccak.proofs.theorems.lanes_rotate.Needs as need
+use Rattle.keccak.proofs.theorems.rotation_moves_bits.Needs as need
 
 pub returns : need.returns
 returns c = record { fits = fits; moves = moves }

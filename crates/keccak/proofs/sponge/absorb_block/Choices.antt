@@ -5,7 +5,7 @@ use lib.Dec.{ltb}
 use lib.ListN.{length, getD}
 use Rattle.keccak.specs.Permutation.{_⊕_}
 use Rattle.keccak.specs.Sponge.{block-lane}
-use Rattle.keccak.proofs.sponge.xor_block.Given as given
+use Rattle.keccak.proofs.sponge.absorb_block.Given as given
 
 abbrev pub Inv-loop-k : given.InvT-loop-k
 Inv-loop-k l =

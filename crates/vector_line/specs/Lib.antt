@@ -1,0 +1,4 @@
+pub mod Arguments
+pub mod Shakes
+pub mod Rows
+pub mod Answers
