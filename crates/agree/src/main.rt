@@ -1,5 +1,7 @@
 // Carries a digit from one side to the other, and says what each side does: by OKCN, by AKCN, and by OKCN with a sum
 // that lies beyond the distance.
+#![tactic(auto)]
+
 use consensus::akcn::Akcn;
 use consensus::okcn::Okcn;
 use report::{Name, Report};

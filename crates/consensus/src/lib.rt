@@ -1,4 +1,6 @@
 // Consensus rules: two sides that hold nearly the same sum agree on a digit with the help of a public hint.
+#![tactic(auto)]
+
 pub mod akcn;
 pub mod arithmetic;
 pub mod carry;

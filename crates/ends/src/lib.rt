@@ -1,4 +1,6 @@
 // The two ends of an exchange.
+#![tactic(auto)]
+
 pub mod answering;
 mod answering_end;
 mod draws;

@@ -1,4 +1,6 @@
 // The exchange from learning with errors: its four products, and the drift of the two sums.
+#![tactic(auto)]
+
 mod arithmetic;
 pub mod drift;
 pub mod fault;

@@ -1,4 +1,6 @@
 // Reads records of seven 16-bit numbers from standard input, and prints a line for each.
+#![tactic(auto)]
+
 use std::io::Read;
 use trial_record::line::lines;
 

@@ -1,4 +1,6 @@
 // What a line of the program `vectors` asks for, and what it prints.
+#![tactic(auto)]
+
 mod arguments;
 pub mod line;
 mod refusal;

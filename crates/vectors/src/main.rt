@@ -1,4 +1,6 @@
 // Reads requests from standard input, one to a line, and prints a line for each.
+#![tactic(auto)]
+
 use anyhow::anyhow;
 use std::io::Read;
 use vector_line::line::{answer, first_line};

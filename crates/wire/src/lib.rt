@@ -1,4 +1,6 @@
 // The two messages of an exchange, an offer and an answer: reading and writing them.
+#![tactic(auto)]
+
 mod bytes;
 pub mod examples;
 pub mod fault;

@@ -21,5 +21,5 @@ floored up down by t x y lu ld lb lt fx fy e f =
 pub returns : goal.returns
 returns c =
     let x = c.args in
-    floored x.up x.down x.by x.t c.div-euclid.result c.rem-euclid.result (omega arith) (omega arith) (omega arith) (omega arith)
-    (record { sfits = c.div-euclid.type-inv }) (record { sfits = c.rem-euclid.type-inv }) c.div-euclid.ensures c.rem-euclid.ensures.value
+    floored x.up x.down x.by x.t c.div_euclid.result c.rem_euclid.result (omega arith) (omega arith) (omega arith) (omega arith)
+    (record { sfits = c.div_euclid.type_inv }) (record { sfits = c.rem_euclid.type_inv }) c.div_euclid.ensures c.rem_euclid.ensures.value

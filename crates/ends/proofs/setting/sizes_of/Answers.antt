@@ -2,8 +2,8 @@ use Rattle.std.proofs.Common.{arith}
 use Rattle.std.proofs.lemmas.Nat.{mul-le}
 use Rattle.ends.proofs.setting.sizes_of.Goals as goal
 
-pub invariant-of-result : goal.invariant-of-result
-invariant-of-result g c =
+pub invariant_of-result : goal.invariant_of-result
+invariant_of-result g c =
     let limits = (g.met.R.Rule.lawful c.args.rule.now).limits.modulus in
     let sound = (g.S.MatrixSource.sound c.args.source.now).side in
     let n = c.side.result in

@@ -5,4 +5,4 @@ pub returns : goal.returns
 unfolding chi
 returns c =
     simp
-    (c.chi_row.ensures, c.chi-row-2.ensures, c.chi-row-3.ensures, c.chi-row-4.ensures, c.chi-row-5.ensures)
+    (c.chi_row.ensures, c.chi_row-2.ensures, c.chi_row-3.ensures, c.chi_row-4.ensures, c.chi_row-5.ensures)

@@ -3,4 +3,4 @@ use Rattle.keccak.proofs.permutation.theta.Goals as goal
 
 pub returns : goal.returns
 unfolding theta
-returns c = simp c.theta-effects-d.ensures
+returns c = simp c.theta_effects-d.ensures

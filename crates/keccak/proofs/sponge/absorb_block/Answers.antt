@@ -13,4 +13,4 @@ returns c =
     let xored : c.loop-k.state ≡ xor_block s b =
     fill_by_all (λ (j : ℕ). cond (ltb j 21) (get_or s j 0 ⊕ block_lane b j) (get_or s j 0)) c.loop-k.state 25 0 c.loop-k.invariant.0
     (λ j h. rw e at (c.loop-k.invariant.1 j)) in
-    c.permute-in-place.ensures ∙ ap permute xored
+    c.permute_in_place.ensures ∙ ap permute xored

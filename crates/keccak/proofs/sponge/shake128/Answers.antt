@@ -40,11 +40,11 @@ put_end a xs ys h =
     let e : drop (length xs - a) (drop a xs) ≡ [] = drop_all (length xs - a) (drop a xs) (simp length-drop (omega arith)) in
     rw (e, append-nil)
 
-pub returns-then-is-empty : goal.returns-then-is-empty
+pub returns-then-is_empty : goal.returns-then-is_empty
 unfolding shake128
-returns-then-is-empty c =
+returns-then-is_empty c =
     let out = c.args.out.now in
-    let none : length out ≡ 0 = eqb-true (length out) 0 (sym c.if-is-empty.ensures) in
+    let none : length out ≡ 0 = eqb-true (length out) 0 (sym c.if-is_empty.ensures) in
     nil_from_length out none ∙ ap (shake128 c.args.message.now) (sym none)
 
 pub loop-i-init : goal.loop-i-init
@@ -57,12 +57,12 @@ loop-i-preserved c =
     let i = c.loop-i.i in
     let s = c.loop-i.state in
     let out = c.loop-i.out in
-    let part = c.write-block.new.part in
+    let part = c.write_block.new.part in
     let n = (length c.args.out.now - 1) / rate in
     let long : length (take (rate * i + rate - rate * i) (drop (rate * i) out)) ≡ rate = simp (length-take, length-drop) (omega arith) in
     let is : part ≡ output_block s =
-    c.write-block.ensures ∙ (ap (λ k. take k (output_block s)) long ∙ take_all rate (output_block s) (length_output s)) in
-    let fits : length part ≡ rate = c.write-block.auto.part ∙ long in
+    c.write_block.ensures ∙ (ap (λ k. take k (output_block s)) long ∙ take_all rate (output_block s) (length_output s)) in
+    let fits : length part ≡ rate = c.write_block.auto.part ∙ long in
     let written = take-put_mid (rate * i) (rate * i + rate - rate * i) out part (rate * (i + 1)) (omega arith) (omega arith) in
     let more = squeeze_more n i s (omega arith) in
     cc (append_assoc (take (rate * i) out) part (squeeze (n + 1 - (i + 1)) (permute s)))
@@ -73,12 +73,12 @@ returns c =
     let n = (d - 1) / rate in
     let s = c.loop-i.state in
     let out = c.loop-i.out in
-    let part = c.write-block-2.new.part in
+    let part = c.write_block-2.new.part in
     let some : 0 < d = search rules in
     let e : c.loop-i.i ≡ n = omega arith in
     let inv = rw (e, c.absorb-state.ensures) at c.loop-i.invariant in
     let long : length (take (length out - rate * n) (drop (rate * n) out)) ≡ d - rate * n = simp (length-take, length-drop) (omega arith) in
-    let is : part ≡ take (d - rate * n) (output_block s) = c.write-block-2.ensures ∙ ap (λ k. take k (output_block s)) long in
+    let is : part ≡ take (d - rate * n) (output_block s) = c.write_block-2.ensures ∙ ap (λ k. take k (output_block s)) long in
     put_end (rate * n) out part (omega arith)
     ∙ (ap (λ r. take (rate * n) out ++ r) is
     ∙ last_part c.args.message.now d n (take (rate * n) out) s some refl (length-take-le (rate * n) out (omega arith)) inv)

@@ -17,8 +17,8 @@ loop-k-preserved c =
     let step = sum_more c.loop-k.k f in
     let left : SFits w16 (signed c.args.la c.args.x.now c.loop-k.k c.args.i) = search rules in
     let right : SFits w16 (signed c.args.lb c.args.y.now c.loop-k.k c.args.j) = search rules in
-    let term : c.signed-product-total.result ≡ f c.loop-k.k = simp to_z-of_z at c.signed-product-total.ensures.value in
+    let term : c.signed_product-total.result ≡ f c.loop-k.k = simp to_z-of_z at c.signed_product-total.ensures.value in
     (omega (arith, ints), omega (arith, ints))
 
-pub overflow-add-total : goal.overflow-add-total
-overflow-add-total c = omega (arith, ints)
+pub overflow_add-total : goal.overflow_add-total
+overflow_add-total c = omega (arith, ints)

@@ -7,11 +7,11 @@ use Rattle.lwe.specs.Matrices.{signed}
 use Rattle.lwe.proofs.Places.{put_below, put_inside, put_above, row_put, row_within}
 use Rattle.lwe.proofs.images.add_row.Goals as goal
 
-pub slice-bounds-add-scaled-end : goal.slice-bounds-add-scaled-end
-slice-bounds-add-scaled-end c = omega (arith, row_within c.loop-c.c (length c.args.row.now) (omega arith) (omega arith))
+pub slice_bounds-add_scaled-end : goal.slice_bounds-add_scaled-end
+slice_bounds-add_scaled-end c = omega (arith, row_within c.loop-c.c (length c.args.row.now) (omega arith) (omega arith))
 
-pub add-scaled-requires : goal.add-scaled-requires
-add-scaled-requires c =
+pub add_scaled-requires : goal.add_scaled-requires
+add_scaled-requires c =
     let i = c.loop-c.c in
     let n = length c.args.row.now in
     let ends = row_within i n (omega arith) (omega arith) in
@@ -28,17 +28,17 @@ loop-c-preserved c =
     let n = length row in
     let a = i * n in
     let was = c.loop-c.sums in
-    let part = c.add-scaled.new.sums in
+    let part = c.add_scaled.new.sums in
     let ends = row_within i n (omega arith) (omega arith) in
     let within : a + (a + n - a) ≤ length was = omega arith in
     let across = length-between was a (a + n) (omega arith) in
-    let long = c.add-scaled.auto.sums ∙ across in
+    let long = c.add_scaled.auto.sums ∙ across in
     let fits : SFits w16 (get_or c.args.x.now i (pos 0)) = search rules in
-    let value = simp to_z-of_z at c.add-scaled.ensures.value in
+    let value = simp to_z-of_z at c.add_scaled.ensures.value in
     let here : (k : ℕ) → k < n → get_or part k (pos 0) ≡ get_or c.args.sums.now (a + k) (pos 0) +ℤ pos (get_or row k 0) *ℤ get_or c.args.x.now i (pos 0) =
     λ k h. value k (omega arith) ∙ ap (λ (z : ℤ). z +ℤ pos (get_or row k 0) *ℤ get_or c.args.x.now i (pos 0)) (get_or-between was a (a + n) k (pos 0) (omega arith) ∙ c.loop-c.invariant.2 (a + k) (omega arith)) in
     let grown : (k : ℕ) → k < n → nat_abs (get_or part k (pos 0)) ≤ nat_abs (get_or c.args.sums.now (a + k) (pos 0)) + 2 ^ 31 =
-    λ k h. rw (get_or-between was a (a + n) k (pos 0) (omega arith), c.loop-c.invariant.2 (a + k) (omega arith)) at (c.add-scaled.ensures.grows k (omega arith)) in (
+    λ k h. rw (get_or-between was a (a + n) k (pos 0) (omega arith), c.loop-c.invariant.2 (a + k) (omega arith)) at (c.add_scaled.ensures.grows k (omega arith)) in (
       row_put (pos 0) n i was part (λ j k. signed n c.args.sums.now j k +ℤ pos (get_or row k 0) *ℤ get_or c.args.x.now j (pos 0)) (omega arith) long c.loop-c.invariant.0 here,
       λ k. elim (dec_lt k a) [
         | yes h ↦ rw (put_below a (a + n - a) was part (pos 0) within long k h) (c.loop-c.invariant.1 k)

@@ -12,8 +12,8 @@ use Rattle.lwe.proofs.images.answering_image.Goals as goal
 pub loop-i-init : goal.loop-i-init
 loop-i-init g c = (walked_none _ _ _, refl, λ k h j m. get_or_same 8192 (k * c.args.sizes.now.n + j) (pos 0), λ k. rw (get_or_same 8192 k (pos 0)) (omega arith))
 
-pub slice-bounds-add-row-end-in-loop-i : goal.slice-bounds-add-row-end-in-loop-i
-slice-bounds-add-row-end-in-loop-i g c = omega (arith, row_ends c.loop-i.i c.args.sizes.now.n c.args.sizes.now.lb (omega arith))
+pub slice_bounds-add_row-end-in-loop-i : goal.slice_bounds-add_row-end-in-loop-i
+slice_bounds-add_row-end-in-loop-i g c = omega (arith, row_ends c.loop-i.i c.args.sizes.now.n c.args.sizes.now.lb (omega arith))
 
 pub loop-i-preserved : goal.loop-i-preserved
 loop-i-preserved g c =
@@ -24,17 +24,17 @@ loop-i-preserved g c =
     let seed = c.args.seed.now in
     let walked = c.loop-i.invariant.0 in
     let ends = row_ends i n l (omega arith) in
-    let row = c.read-row.new.row in
+    let row = c.read_row.new.row in
     let rows : length row ≡ n = omega arith in
     let across = length-between c.args.x2.now (i * l) (i * l + l) (omega arith) in
     let entries : (r : ℕ) → r < n → get_or row r 0 ≡ m.entry seed i r =
-    λ r h. c.read-row.ensures.entries c.in-ok-read-row.was r (omega arith) ∙ ap (λ (m : Matrices). m.entry seed i r) walked.kept in (
-      walked_more _ g.S.MatrixSource.turned seed i _ _ _ c.read-row.result c.read-row.ensures.turned walked c.in-ok-read-row.was,
-      c.add-row.auto.sums ∙ c.loop-i.invariant.1,
+    λ r h. c.read_row.ensures.entries c.in_ok-read_row.was r (omega arith) ∙ ap (λ (m : Matrices). m.entry seed i r) walked.kept in (
+      walked_more _ g.S.MatrixSource.turned seed i _ _ _ c.read_row.result c.read_row.ensures.turned walked c.in_ok-read_row.was,
+      c.add_row.auto.sums ∙ c.loop-i.invariant.1,
       λ k h j m'.
-          sums_entry i k j (m.entry seed) (signed l c.args.x2.now) (get_or row j 0) (signed n c.loop-i.sums k j) (signed n c.add-row.new.sums k j) _ (c.loop-i.invariant.2 k h j m') (entries j m') (get_or-between c.args.x2.now (i * l) (i * l + l) k (pos 0) (omega arith))
-          (rw rows at (c.add-row.ensures.value k (omega arith) j (omega arith))),
-      λ k. omega (arith, c.add-row.ensures.grows k, c.loop-i.invariant.3 k),
+          sums_entry i k j (m.entry seed) (signed l c.args.x2.now) (get_or row j 0) (signed n c.loop-i.sums k j) (signed n c.add_row.new.sums k j) _ (c.loop-i.invariant.2 k h j m') (entries j m') (get_or-between c.args.x2.now (i * l) (i * l + l) k (pos 0) (omega arith))
+          (rw rows at (c.add_row.ensures.value k (omega arith) j (omega arith))),
+      λ k. omega (arith, c.add_row.ensures.grows k, c.loop-i.invariant.3 k),
     )
 
 pub returns : goal.returns
@@ -44,5 +44,5 @@ returns g c =
     let m = g.S.MatrixSource.meaning c.args.source.now in
     let all : c.loop-i.i ≡ n = omega arith in
     let Y = Y2 c.args.sizes.now.q n (public_matrix m c.args.seed.now) (signed l c.args.x2.now) (signed l c.args.e2.now) in
-    imaged g.S.MatrixSource.meaning c.args.seed.now n l c.loop-i.i Y c.args.source.now c.loop-i.source c.noisy-image.result c.loop-i.invariant.0 (omega arith) (sym c.side.ensures ∙ c.if-side-n.false)
-    (c.noisy-image.ensures ∙ image_same c.args.sizes.now.q n l c.loop-i.i (public_matrix m c.args.seed.now) (signed l c.args.x2.now) (signed l c.args.e2.now) c.loop-i.sums all (omega arith) c.loop-i.invariant.2)
+    imaged g.S.MatrixSource.meaning c.args.seed.now n l c.loop-i.i Y c.args.source.now c.loop-i.source c.noisy_image.result c.loop-i.invariant.0 (omega arith) (sym c.side.ensures ∙ c.if-side-n.false)
+    (c.noisy_image.ensures ∙ image_same c.args.sizes.now.q n l c.loop-i.i (public_matrix m c.args.seed.now) (signed l c.args.x2.now) (signed l c.args.e2.now) c.loop-i.sums all (omega arith) c.loop-i.invariant.2)

@@ -4,8 +4,8 @@ use Rattle.lwe.specs.Matrices.{signed, transposed}
 use Rattle.lwe.proofs.Places.{put_length, row_put, row_within}
 use Rattle.lwe.proofs.images.columns_of.Goals as goal
 
-pub slice-bounds-columns-end : goal.slice-bounds-columns-end
-slice-bounds-columns-end c = omega (arith, row_within c.loop-c.c c.args.n (omega arith) (omega arith), c.loop-c.invariant.0)
+pub slice_bounds-columns-end : goal.slice_bounds-columns-end
+slice_bounds-columns-end c = omega (arith, row_within c.loop-c.c c.args.n (omega arith) (omega arith), c.loop-c.invariant.0)
 
 pub loop-c-preserved : goal.loop-c-preserved
 loop-c-preserved c =
@@ -13,7 +13,7 @@ loop-c-preserved c =
     let n = c.args.n in
     let ends = row_within i n (omega arith) (omega arith) in
     let part = length-between c.loop-c.columns (i * n) (i * n + n) (omega (arith, c.loop-c.invariant.0)) in
-    let long = c.take-column.auto.column ∙ part in (
-      put_length (i * n) (i * n + n - i * n) c.loop-c.columns c.take-column.new.column (pos 0) (omega (arith, c.loop-c.invariant.0)) long ∙ c.loop-c.invariant.0,
-      row_put (pos 0) n i c.loop-c.columns c.take-column.new.column (transposed (signed c.args.l c.args.x.now)) (omega (arith, c.loop-c.invariant.0)) long c.loop-c.invariant.1 (λ r h. c.take-column.ensures r (omega arith)),
+    let long = c.take_column.auto.column ∙ part in (
+      put_length (i * n) (i * n + n - i * n) c.loop-c.columns c.take_column.new.column (pos 0) (omega (arith, c.loop-c.invariant.0)) long ∙ c.loop-c.invariant.0,
+      row_put (pos 0) n i c.loop-c.columns c.take_column.new.column (transposed (signed c.args.l c.args.x.now)) (omega (arith, c.loop-c.invariant.0)) long c.loop-c.invariant.1 (λ r h. c.take_column.ensures r (omega arith)),
     )

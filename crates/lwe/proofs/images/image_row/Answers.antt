@@ -7,8 +7,8 @@ use Rattle.lwe.proofs.FiniteSums.{sum_same}
 use Rattle.lwe.proofs.Places.{row_within}
 use Rattle.lwe.proofs.images.image_row.Goals as goal
 
-pub slice-bounds-dot-end : goal.slice-bounds-dot-end
-slice-bounds-dot-end c = row_within c.loop-c.c (length c.args.row.now) (omega arith) (omega arith)
+pub slice_bounds-dot-end : goal.slice_bounds-dot-end
+slice_bounds-dot-end c = row_within c.loop-c.c (length c.args.row.now) (omega arith) (omega arith)
 
 pub loop-c-preserved : goal.loop-c-preserved
 loop-c-preserved c =

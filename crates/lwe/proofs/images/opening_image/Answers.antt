@@ -12,11 +12,11 @@ use Rattle.lwe.proofs.images.opening_image.Goals as goal
 pub loop-i-init : goal.loop-i-init
 loop-i-init g c = (walked_none _ _ _, rw zero-mul (filled_none _ 8192))
 
-pub slice-bounds-noise-end : goal.slice-bounds-noise-end
-slice-bounds-noise-end g c = omega (arith, row_ends c.loop-i.i c.args.sizes.now.n c.args.sizes.now.la (omega arith))
+pub slice_bounds-noise-end : goal.slice_bounds-noise-end
+slice_bounds-noise-end g c = omega (arith, row_ends c.loop-i.i c.args.sizes.now.n c.args.sizes.now.la (omega arith))
 
-pub slice-bounds-image-end : goal.slice-bounds-image-end
-slice-bounds-image-end g c = omega (arith, row_ends c.loop-i.i c.args.sizes.now.n c.args.sizes.now.la (omega arith), c.loop-i.invariant.1.long)
+pub slice_bounds-image-end : goal.slice_bounds-image-end
+slice_bounds-image-end g c = omega (arith, row_ends c.loop-i.i c.args.sizes.now.n c.args.sizes.now.la (omega arith), c.loop-i.invariant.1.long)
 
 pub loop-i-preserved : goal.loop-i-preserved
 loop-i-preserved g c =
@@ -27,16 +27,16 @@ loop-i-preserved g c =
     let seed = c.args.seed.now in
     let walked = c.loop-i.invariant.0 in
     let ends = row_ends i n l (omega arith) in
-    let row = c.read-row.new.row in
+    let row = c.read_row.new.row in
     let rows : length row ≡ n = omega arith in
     let entries : (r : ℕ) → r < n → get_or row r 0 ≡ m.entry seed i r =
-    λ r h. c.read-row.ensures.entries c.in-ok-read-row.was r (omega arith) ∙ ap (λ (m : Matrices). m.entry seed i r) walked.kept in
-    let long = c.image-row.auto.image ∙ length-between c.loop-i.image (i * l) (i * l + l) (omega (arith, c.loop-i.invariant.1.long)) in (
-      walked_more _ g.S.MatrixSource.turned seed i _ _ _ c.read-row.result c.read-row.ensures.turned walked c.in-ok-read-row.was,
-      filled_row 8192 l i _ c.loop-i.image c.image-row.new.image (omega arith) long c.loop-i.invariant.1
+    λ r h. c.read_row.ensures.entries c.in_ok-read_row.was r (omega arith) ∙ ap (λ (m : Matrices). m.entry seed i r) walked.kept in
+    let long = c.image_row.auto.image ∙ length-between c.loop-i.image (i * l) (i * l + l) (omega (arith, c.loop-i.invariant.1.long)) in (
+      walked_more _ g.S.MatrixSource.turned seed i _ _ _ c.read_row.result c.read_row.ensures.turned walked c.in_ok-read_row.was,
+      filled_row 8192 l i _ c.loop-i.image c.image_row.new.image (omega arith) long c.loop-i.invariant.1
           (λ k h.
-          c.image-row.ensures k (omega arith)
-          ∙ image_entry c.args.sizes.now.q n l i k (m.entry seed) (signed l c.args.x1.now) (signed l c.args.e1.now) row c.columns-of-columns.result _ rows h entries c.columns-of-columns.ensures (get_or-between c.args.e1.now (i * l) (i * l + l) k (pos 0) (omega arith))),
+          c.image_row.ensures k (omega arith)
+          ∙ image_entry c.args.sizes.now.q n l i k (m.entry seed) (signed l c.args.x1.now) (signed l c.args.e1.now) row c.columns_of-columns.result _ rows h entries c.columns_of-columns.ensures (get_or-between c.args.e1.now (i * l) (i * l + l) k (pos 0) (omega arith))),
     )
 
 pub returns : goal.returns

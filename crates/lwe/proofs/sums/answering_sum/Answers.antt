@@ -10,8 +10,8 @@ use Rattle.lwe.proofs.sums.answering_sum.Goals as goal
 pub loop-k-init : goal.loop-k-init
 loop-k-init c = filled_none _ 64
 
-pub column-product-total-requires : goal.column-product-total-requires
-column-product-total-requires c =
+pub column_product-total-requires : goal.column_product-total-requires
+column_product-total-requires c =
     let s = c.args.sizes.now in
     record {
       rows = omega arith;
@@ -23,11 +23,11 @@ pub loop-k-preserved : goal.loop-k-preserved
 loop-k-preserved c =
     let s = c.args.sizes.now in
     let k = c.loop-k.k in
-    let wide : SFits w64 c.column-product-total.result = search rules in
+    let wide : SFits w64 c.column_product-total.result = search rules in
     let narrow : SFits w16 (get_or c.args.noise.now k (pos 0)) = search rules in
     let value = simp to_z-of_z at c.noisy.ensures in
     filled_more _ c.loop-k.sums 64 k c.noisy.result (omega arith)
-    (value ∙ rw (div-add-mod' k s.lb, c.column-product-total.ensures.value)) c.loop-k.invariant
+    (value ∙ rw (div-add-mod' k s.lb, c.column_product-total.ensures.value)) c.loop-k.invariant
 
 pub returns : goal.returns
 returns c =

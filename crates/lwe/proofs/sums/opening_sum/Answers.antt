@@ -12,8 +12,8 @@ use Rattle.lwe.proofs.sums.opening_sum.Goals as goal
 pub loop-k-init : goal.loop-k-init
 loop-k-init c = filled_none _ 64
 
-pub column-product-total-requires : goal.column-product-total-requires
-column-product-total-requires c =
+pub column_product-total-requires : goal.column_product-total-requires
+column_product-total-requires c =
     let s = c.args.sizes.now in
     record {
       rows = omega arith;
@@ -27,11 +27,11 @@ loop-k-preserved c =
     let k = c.loop-k.k in
     let x : ℕ → ℤ = λ r. signed s.la c.args.x1.now r (k / s.lb) in
     let y : ℕ → ℤ = λ r. plain s.lb c.args.y2.now r (k % s.lb) in
-    let wide : SFits w64 c.column-product-total.result = search rules in
+    let wide : SFits w64 c.column_product-total.result = search rules in
     let value = simp to_z-of_z at c.modulo.ensures in
     let turn = sum_same s.n (λ r. y r *ℤ x r) (λ r. x r *ℤ y r) (λ r _. *ℤ_comm (y r) (x r)) in
     filled_more _ c.loop-k.sums 64 k c.modulo.result (omega arith)
-    (value ∙ ap (λ z. residue z s.q) (c.column-product-total.ensures.value ∙ turn)) c.loop-k.invariant
+    (value ∙ ap (λ z. residue z s.q) (c.column_product-total.ensures.value ∙ turn)) c.loop-k.invariant
 
 pub returns : goal.returns
 returns c =

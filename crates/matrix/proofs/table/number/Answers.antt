@@ -6,11 +6,11 @@ use Rattle.matrix.proofs.table.number.Goals as goal
 near : (row n : ℕ) → row < 65536 → n ≤ 1024 → row * n ≤ 65535 * 1024
 near row n small short = mul-le-mul {n₂ = 65535} {m₂ = 1024} (omega arith) (omega arith)
 
-pub overflow-mul-place : goal.overflow-mul-place
-overflow-mul-place c = omega (arith, near c.from.result c.args.n (omega arith) (omega arith))
+pub overflow_mul-place : goal.overflow_mul-place
+overflow_mul-place c = omega (arith, near c.from.result c.args.n (omega arith) (omega arith))
 
-pub overflow-add-place : goal.overflow-add-place
-overflow-add-place c = omega (arith, near c.from.result c.args.n (omega arith) (omega arith))
+pub overflow_add-place : goal.overflow_add-place
+overflow_add-place c = omega (arith, near c.from.result c.args.n (omega arith) (omega arith))
 
 pub returns-else-place-numbers : goal.returns-else-place-numbers
 returns-else-place-numbers c = search (rules, get_or_past)

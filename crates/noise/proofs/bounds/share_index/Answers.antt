@@ -31,8 +31,8 @@ module _ (law word index i : ℕ) (bounds : List ℕ) (known : law ≤ 5) (are :
   all_compared h =
       so_far ∙ ap (count_by (λ b. leb b word)) (take_all i bounds (omega (arith, ap length are, ten_bounds law known)) ∙ are)
 
-pub overflow-add-index : goal.overflow-add-index
-overflow-add-index c =
+pub overflow_add-index : goal.overflow_add-index
+overflow_add-index c =
     small c.args.word c.loop-bound.index c.loop-bound.bound-index c.bounds-bounds.result
     (leb (get_or c.bounds-bounds.result c.loop-bound.bound-index 0) c.args.word) c.loop-bound-test.true c.loop-bound.invariant
 

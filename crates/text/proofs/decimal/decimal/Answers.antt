@@ -6,9 +6,9 @@ pub returns : goal.returns
 returns c =
     sym (c.loop-b.invariant.1 ∙ at_end c.loop-b.value c.args.word.now c.loop-b.b-index c.loop-b-test.false c.loop-b.invariant.0)
 
-pub returns-in-default : goal.returns-in-default
-returns-in-default c =
-    sym (c.loop-b.invariant.1 ∙ at_digit None c.loop-b.value c.args.word.now c.loop-b.b-index c.loop-b-test.true c.in-default.ensures)
+pub returns-in_default : goal.returns-in_default
+returns-in_default c =
+    sym (c.loop-b.invariant.1 ∙ at_digit None c.loop-b.value c.args.word.now c.loop-b.b-index c.loop-b-test.true c.in_default.ensures)
 
 pub returns-then-value : goal.returns-then-value
 returns-then-value c =

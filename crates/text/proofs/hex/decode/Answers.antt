@@ -14,11 +14,11 @@ pub loop-i-preserved : goal.loop-i-preserved
 loop-i-preserved c =
     at_pair (Some c.in-Some.byte) (vec_items c.loop-i.bytes) c.args.word.now c.loop-i.i (omega arith)
     c.in-Some.ensures c.loop-i.invariant
-    ∙ ap (λ (l : List ℕ). after l (bytes_of (drop (2 * (c.loop-i.i + 1)) c.args.word.now))) (sym c.in-ok-push.ensures.items)
+    ∙ ap (λ (l : List ℕ). after l (bytes_of (drop (2 * (c.loop-i.i + 1)) c.args.word.now))) (sym c.in_ok-push.ensures.items)
 
-pub returns-in-default : goal.returns-in-default
-returns-in-default c =
-    sym (at_pair None (vec_items c.loop-i.bytes) c.args.word.now c.loop-i.i (omega arith) c.in-default.ensures c.loop-i.invariant)
+pub returns-in_default : goal.returns-in_default
+returns-in_default c =
+    sym (at_pair None (vec_items c.loop-i.bytes) c.args.word.now c.loop-i.i (omega arith) c.in_default.ensures c.loop-i.invariant)
 
 pub returns : goal.returns
 returns c = sym (at_end (vec_items c.loop-i.bytes) c.args.word.now c.loop-i.i (omega arith) c.loop-i.invariant)

@@ -21,11 +21,11 @@ loop-i-preserved c = (
       (sym (take_more_set c.loop-i.seed c.loop-i.i c.in-Some.byte (omega arith))),
 )
 
-pub returns-in-default : goal.returns-in-default
-returns-in-default c =
+pub returns-in_default : goal.returns-in_default
+returns-in_default c =
     sym
     (cond-true (eqb (length c.args.word.now) 64) (bytes_of c.args.word.now) None (eq-eqb (length c.args.word.now) 64 c.if-word-ne64.false)
-    ∙ at_pair None (take c.loop-i.i c.loop-i.seed) c.args.word.now c.loop-i.i (omega arith) c.in-default.ensures c.loop-i.invariant.1)
+    ∙ at_pair None (take c.loop-i.i c.loop-i.seed) c.args.word.now c.loop-i.i (omega arith) c.in_default.ensures c.loop-i.invariant.1)
 
 pub returns : goal.returns
 returns c =

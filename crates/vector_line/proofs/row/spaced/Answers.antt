@@ -8,14 +8,14 @@ use Rattle.vector_line.proofs.row.spaced.Goals as goal
 pub loop-number-init : goal.loop-number-init
 loop-number-init c =
     begun c.args.numbers.now (onward c.args.numbers.now 1) (omega (arith, ltb-false)) (take_rest c.args.numbers.now 1)
-    ∙ ap (λ (l : List ℕ). l ++ flat_map spaced_number (drop 0 (onward c.args.numbers.now 1))) (sym c.in-ok-text.ensures.ok)
+    ∙ ap (λ (l : List ℕ). l ++ flat_map spaced_number (drop 0 (onward c.args.numbers.now 1))) (sym c.in_ok-text.ensures.ok)
 
 pub loop-number-preserved : goal.loop-number-preserved
 loop-number-preserved c =
-    spaced_more (spaced_text c.args.numbers.now) (string_bytes c.loop-number.text) c.as-str.result.now (string_bytes c.push-str.new.self)
+    spaced_more (spaced_text c.args.numbers.now) (string_bytes c.loop-number.text) c.as_str.result.now (string_bytes c.push_str.new.self)
     (onward c.args.numbers.now 1) c.loop-number.number-index c.loop-number-test.true c.loop-number.invariant
-    (c.as-str.ensures.value ∙ c.in-ok-next.ensures.ok)
-    c.in-ok-push-str.ensures.bytes
+    (c.as_str.ensures.value ∙ c.in_ok-next.ensures.ok)
+    c.in_ok-push_str.ensures.bytes
 
 pub returns : goal.returns
 returns c =

@@ -16,4 +16,4 @@ word_refused number law word known e h =
 
 pub returns-then-word : goal.returns-then-word
 returns-then-word c =
-    word_refused c.args.law c.in-ok-law.law.number c.args.word c.in-ok-law.law.known c.in-ok-law.ensures (omega arith)
+    word_refused c.args.law c.in_ok-law.law.number c.args.word c.in_ok-law.law.known c.in_ok-law.ensures (omega arith)

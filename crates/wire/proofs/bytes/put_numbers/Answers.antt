@@ -9,7 +9,7 @@ loop-i-init c = paste_none _ c.args.place (bytes_of c.args.numbers.now)
 
 pub loop-i-preserved : goal.loop-i-preserved
 loop-i-preserved c =
-    let two = c.to-be-bytes.ensures in
+    let two = c.to_be_bytes.ensures in
     put_number c.args.out.now c.args.place c.args.numbers.now c.loop-i.i _ _ _ c.requires c.loop-i-test.true c.loop-i.invariant
-    (ap (λ r. get_or r 0 0) two ∙ omega (arith, c.type-inv.numbers c.loop-i.i))
+    (ap (λ r. get_or r 0 0) two ∙ omega (arith, c.type_inv.numbers c.loop-i.i))
     (ap (λ r. get_or r 1 0) two)

@@ -32,7 +32,7 @@ returns c =
       long = long;
       buffer = laid d c.fields.result (fields (header s k number)) seed y hints _ _ _ _ 16 body (body + 2 * length y)
           (c.fields.ensures ∙ ap fields c.due.ensures)
-          c.put-numbers.ensures c.put-bytes.ensures c.put-numbers-2.ensures c.put-numbers-3.ensures
+          c.put_numbers.ensures c.put_bytes.ensures c.put_numbers-2.ensures c.put_numbers-3.ensures
           refl refl refl
           ∙ ap (λ size. m ++ drop size d) (long ∙ sym c.length-length.ensures);
       back = reads_back s k f c.requires;

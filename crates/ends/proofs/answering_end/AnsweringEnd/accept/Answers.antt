@@ -8,25 +8,25 @@ use Rattle.ends.specs.Settings.{extent}
 use Rattle.ends.proofs.AnsweringCalls.{offer_taken, offer_again, offer_numbers}
 use Rattle.ends.proofs.answering_end.AnsweringEnd.accept.Goals as goal
 
-pub returns-in-default-2 : goal.returns-in-default-2
-returns-in-default-2 g c =
+pub returns-in_default-2 : goal.returns-in_default-2
+returns-in_default-2 g c =
     let e = c.args.self.now in
     let s = answering_setting g.R.Rule.meaning g.S.MatrixSource.meaning e in
     let holds = c.requires.sizes in
     let dims : dimensions c.args.sizes.now ≡ extent s = λ i. record { n = holds.side i; la = holds.opening i; lb = holds.answering i } in
-    let read = c.in-ok-offer.ensures in
-    offer_again s e.state c.args.message.now (dimensions c.args.sizes.now) (offered c.in-ok-offer.offer) dims read.0 read.1 (omega arith)
+    let read = c.in_ok-offer.ensures in
+    offer_again s e.state c.args.message.now (dimensions c.args.sizes.now) (offered c.in_ok-offer.offer) dims read.0 read.1 (omega arith)
 
-pub returns-in-err-check : goal.returns-in-err-check
-returns-in-err-check g c =
-    let p = err_from_is_err_and c.from-residual-in-err-check.result c.from-residual-in-err-check.ensures.1 in
+pub returns-in_err-check : goal.returns-in_err-check
+returns-in_err-check g c =
+    let p = err_from_is_err_and c.from_residual-in_err-check.result c.from_residual-in_err-check.ensures.1 in
     let e = c.args.self.now in
     let s = answering_setting g.R.Rule.meaning g.S.MatrixSource.meaning e in
     let holds = c.requires.sizes in
     let dims : dimensions c.args.sizes.now ≡ extent s = λ i. record { n = holds.side i; la = holds.opening i; lb = holds.answering i } in
-    let read = c.in-ok-offer.ensures in
-    let found = c.in-err-check.ensures s.rule.hints in
-    let left = offer_numbers s e.state c.args.message.now (dimensions c.args.sizes.now) (offered c.in-ok-offer.offer) dims read.0 read.1 (omega arith) c.args.sizes.now.q holds.modulus in
+    let read = c.in_ok-offer.ensures in
+    let found = c.in_err-check.ensures s.rule.hints in
+    let left = offer_numbers s e.state c.args.message.now (dimensions c.args.sizes.now) (offered c.in_ok-offer.offer) dims read.0 read.1 (omega arith) c.args.sizes.now.q holds.modulus in
     rw (p.1, p.2) (left ∙ ap of_message found)
 
 pub returns : goal.returns
@@ -35,9 +35,9 @@ returns g c =
     let s = answering_setting g.R.Rule.meaning g.S.MatrixSource.meaning e in
     let holds = c.requires.sizes in
     let dims : dimensions c.args.sizes.now ≡ extent s = λ i. record { n = holds.side i; la = holds.opening i; lb = holds.answering i } in
-    let read = c.in-ok-offer.ensures in
-    let found = c.in-ok-check.ensures s.rule.hints in
-    let fields = offered c.in-ok-offer.offer in
+    let read = c.in_ok-offer.ensures in
+    let found = c.in_ok-check.ensures s.rule.hints in
+    let fields = offered c.in_ok-offer.offer in
     let left = offer_numbers s e.state c.args.message.now (dimensions c.args.sizes.now) fields dims read.0 read.1 (omega arith) c.args.sizes.now.q holds.modulus in (
       left ∙ ap of_message found.0,
       offer_taken s e.state c.args.message.now (dimensions c.args.sizes.now) fields dims read.0 read.1,

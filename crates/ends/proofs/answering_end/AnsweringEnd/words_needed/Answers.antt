@@ -3,8 +3,8 @@ use Rattle.noise.specs.Replies.{number_of}
 use Rattle.ends.proofs.Limits.{width_fits, limit_is}
 use Rattle.ends.proofs.answering_end.AnsweringEnd.words_needed.Goals as goal
 
-pub overflow-shl-result : goal.overflow-shl-result
-overflow-shl-result g c = width_fits c.width.result c.args.self.now.law (number_of c.args.law.now) c.width.ensures c.requires.law c.args.self.now.known
+pub overflow_shl-result : goal.overflow_shl-result
+overflow_shl-result g c = width_fits c.width.result c.args.self.now.law (number_of c.args.law.now) c.width.ensures c.requires.law c.args.self.now.known
 
 pub returns : goal.returns
 returns g c =

@@ -12,12 +12,12 @@ use Rattle.ends.proofs.opening.OpeningState.key.Goals as goal
 sums_are : (q n la lb : ℕ) (X Y : Matrix) (array : List ℕ) → la * lb ≤ 64 → array ≡ padded 0 64 (by_rows la lb (Σ1 q n X Y)) → take (la * lb - 0) array ≡ by_rows la lb (Σ1 q n X Y)
 sums_are q n la lb X Y array fits e = rw (sub-zero (la * lb), e) (front 0 64 (la * lb) (by_rows la lb (Σ1 q n X Y)) (length_by_rows la lb (Σ1 q n X Y)) fits)
 
-pub recover-places-requires : goal.recover-places-requires
-recover-places-requires g c =
+pub recover_places-requires : goal.recover_places-requires
+recover_places-requires g c =
     let s = c.args.sizes.now in
     let X = signed s.la c.args.self.now.secret in
     let Y = plain s.lb c.args.y2.now in
-    let is = sums_are s.q s.n s.la s.lb X Y c.opening-sum-sums.result (omega arith) c.opening-sum-sums.ensures in
+    let is = sums_are s.q s.n s.la s.lb X Y c.opening_sum-sums.result (omega arith) c.opening_sum-sums.ensures in
     let long = length_by_rows s.la s.lb (Σ1 s.q s.n X Y) in
     rw is
     (record {
@@ -32,11 +32,11 @@ returns g c =
     let m = g.R.Rule.meaning c.args.rule.now in
     let X = signed s.la c.args.self.now.secret in
     let Y = plain s.lb c.args.y2.now in
-    let is = sums_are s.q s.n s.la s.lb X Y c.opening-sum-sums.result (omega arith) c.opening-sum-sums.ensures in
+    let is = sums_are s.q s.n s.la s.lb X Y c.opening_sum-sums.result (omega arith) c.opening_sum-sums.ensures in
     let long : length c.args.self.now.digits ≡ 64 = omega arith in
-    let digits : c.recover-places.new.digits ≡ padded 0 64 (recovered s.n s.la s.lb m c.args.self.now.secret c.args.y2.now c.args.hints.now) =
-    c.recover-places.ensures
-    ∙ ap (λ size. padded 0 size (recover_all m (take (s.la * s.lb - 0) c.opening-sum-sums.result) c.args.hints.now)) long
+    let digits : c.recover_places.new.digits ≡ padded 0 64 (recovered s.n s.la s.lb m c.args.self.now.secret c.args.y2.now c.args.hints.now) =
+    c.recover_places.ensures
+    ∙ ap (λ size. padded 0 size (recover_all m (take (s.la * s.lb - 0) c.opening_sum-sums.result) c.args.hints.now)) long
     ∙ ap (λ sums. padded 0 64 (recover_all m sums c.args.hints.now)) is
     ∙ ap (λ q. padded 0 64 (recover_all m (by_rows s.la s.lb (Σ1 q s.n X Y)) c.args.hints.now)) c.requires.modulus in
     λ i. record {

@@ -17,7 +17,7 @@ sample-requires g c =
     let words = c.args.words.now in
     let limit = 2 ^ width_of (number_of c.args.law.now) in
     let count = length-take (s.n * s.la) words in
-    rw c.split-at.ensures.front (record { room = omega arith; below = below_take limit (s.n * s.la) words c.requires.below })
+    rw c.split_at.ensures.front (record { room = omega arith; below = below_take limit (s.n * s.la) words c.requires.below })
 
 pub sample-requires-2 : goal.sample-requires-2
 sample-requires-2 g c =
@@ -25,7 +25,7 @@ sample-requires-2 g c =
     let words = c.args.words.now in
     let limit = 2 ^ width_of (number_of c.args.law.now) in
     let count = length-drop (s.n * s.la) words in
-    rw c.split-at.ensures.back (record { room = omega arith; below = below_drop limit (s.n * s.la) words c.requires.below })
+    rw c.split_at.ensures.back (record { room = omega arith; below = below_drop limit (s.n * s.la) words c.requires.below })
 
 pub returns : goal.returns
 returns g c =
@@ -46,12 +46,12 @@ returns g c =
     let noise_size : length c.args.self.now.noise ≡ 8192 = omega arith in
     let digits_size : length c.args.self.now.digits ≡ 64 = omega arith in
     let secret : c.sample.new.values ≡ padded (pos 0) 8192 (drawn_X1 n la law words) =
-    c.sample.ensures ∙ ap (λ size. padded (pos 0) size (map value c.split-at.result.0.now)) secret_size ∙ ap (λ ws. padded (pos 0) 8192 (map value ws)) c.split-at.ensures.front in
+    c.sample.ensures ∙ ap (λ size. padded (pos 0) size (map value c.split_at.result.0.now)) secret_size ∙ ap (λ ws. padded (pos 0) 8192 (map value ws)) c.split_at.ensures.front in
     let drawn : c.sample-2.new.values ≡ padded (pos 0) 8192 (drawn_E1 n la law words) =
-    c.sample-2.ensures ∙ ap (λ size. padded (pos 0) size (map value c.split-at.result.1.now)) noise_size ∙ ap (λ ws. padded (pos 0) 8192 (map value ws)) c.split-at.ensures.back in
+    c.sample-2.ensures ∙ ap (λ size. padded (pos 0) size (map value c.split_at.result.1.now)) noise_size ∙ ap (λ ws. padded (pos 0) 8192 (map value ws)) c.split_at.ensures.back in
     let X : signed la c.sample.new.values ≡ signed la (drawn_X1 n la law words) = ap (signed la) secret ∙ signed_padded la 8192 (drawn_X1 n la law words) (omega arith) in
     let E : signed la c.sample-2.new.values ≡ signed la (drawn_E1 n la law words) = ap (signed la) drawn ∙ signed_padded la 8192 (drawn_E1 n la law words) (omega arith) in
-    let Y = imaged_is m seed n la (Y1 q n (public_matrix m seed) (signed la c.sample.new.values) (signed la c.sample-2.new.values)) c.unwrap-self.result c.requires.side c.requires.known (sym c.unwrap-self.ensures ∙ c.opening-image.ensures.answer) in
+    let Y = imaged_is m seed n la (Y1 q n (public_matrix m seed) (signed la c.sample.new.values) (signed la c.sample-2.new.values)) c.unwrap-self.result c.requires.side c.requires.known (sym c.unwrap-self.ensures ∙ c.opening_image.ensures.answer) in
     let image : c.unwrap-self.result ≡ padded 0 8192 (by_rows n la (offered q n la m law seed words)) =
     Y
     ∙ ap (λ (x : Matrix). padded 0 8192 (by_rows n la (Y1 q n (public_matrix m seed) x (signed la c.sample-2.new.values)))) X
@@ -69,5 +69,5 @@ returns g c =
         digits = digits i;
         noise = noise i;
       };
-      source = c.opening-image.ensures.kept;
+      source = c.opening_image.ensures.kept;
     }

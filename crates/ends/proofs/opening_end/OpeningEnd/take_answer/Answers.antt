@@ -23,10 +23,10 @@ pub key-requires : goal.key-requires
 key-requires g c =
     let e = c.args.self.now in
     let holds = c.sizes-sizes.ensures in
-    let read = c.in-ok-answer.ensures in
-    let a = c.in-ok-answer.answer in
+    let read = c.in_ok-answer.ensures in
+    let a = c.in_ok-answer.answer in
     let long : length (list a.hints) ≡ c.sizes-sizes.result.la * c.sizes-sizes.result.lb = read.1.sized.hints ∙ rw (holds.opening, holds.answering) in
-    let is = hints_are c.sizes-sizes.result.la c.sizes-sizes.result.lb (list a.hints) c.to-array-hints.result long (omega arith) c.to-array-hints.ensures in
+    let is = hints_are c.sizes-sizes.result.la c.sizes-sizes.result.lb (list a.hints) c.to_array-hints.result long (omega arith) c.to_array-hints.ensures in
     rw is (record { modulus = holds.modulus; count = long; below = read.2.hints })
 
 pub returns : goal.returns
@@ -36,17 +36,17 @@ returns g c =
     let holds = c.sizes-sizes.ensures in
     let sound = (g.S.MatrixSource.sound e.source).side in
     let message = c.args.message.now in
-    let read = c.in-ok-answer.ensures in
-    let a = c.in-ok-answer.answer in
+    let read = c.in_ok-answer.ensures in
+    let a = c.in_ok-answer.answer in
     let decoded : answered a ≡ decode (extent s) Answer message = read.1.decoded in
     let long : length (list a.hints) ≡ c.sizes-sizes.result.la * c.sizes-sizes.result.lb = read.1.sized.hints ∙ rw (holds.opening, holds.answering) in
-    let is = hints_are c.sizes-sizes.result.la c.sizes-sizes.result.lb (list a.hints) c.to-array-hints.result long (omega arith) c.to-array-hints.ensures in
+    let is = hints_are c.sizes-sizes.result.la c.sizes-sizes.result.lb (list a.hints) c.to_array-hints.result long (omega arith) c.to_array-hints.ensures in
     let small : s.matrices.side * s.lb ≤ 8192 = mul-le s.matrices.side s.lb 1024 8 sound.1 e.answering.1 in
     let entries : length (list a.entries) ≤ 8192 = omega (arith, read.1.sized.entries) in
     let session : a.number ≡ e.state.number = ap (λ (f : Fields). f.session) decoded ∙ take_number s e.state message read.0 in
     let state : c.key.new.self ≡ taking s e.state message =
     c.key.ensures
-    ∙ (λ i. keyed (holds.side i) (holds.opening i) (holds.answering i) s.rule (c.to-array-y2.ensures i) (is i) e.state)
+    ∙ (λ i. keyed (holds.side i) (holds.opening i) (holds.answering i) s.rule (c.to_array-y2.ensures i) (is i) e.state)
     ∙ keyed_entries s.matrices.side s.la s.lb s.rule (list a.entries) (list a.hints) e.state entries
     ∙ (λ i. keyed s.matrices.side s.la s.lb s.rule (decoded i).entries (decoded i).hints e.state) in
     record {

@@ -7,8 +7,8 @@ use Rattle.lwe.proofs.DriftIdentity.{drift_identity}
 use Rattle.lwe.proofs.FiniteSums.{sum_sub}
 use Rattle.lwe.proofs.sizes.Sizes.drift.Goals as goal
 
-pub columns-times-up-requires : goal.columns-times-up-requires
-columns-times-up-requires c =
+pub columns_times-up-requires : goal.columns_times-up-requires
+columns_times-up-requires c =
     let s = c.args.self.now in
     record {
       rows = omega arith;
@@ -16,8 +16,8 @@ columns-times-up-requires c =
       right = (omega arith, mod_below c.args.place s.lb (omega arith));
     }
 
-pub columns-times-down-requires : goal.columns-times-down-requires
-columns-times-down-requires c =
+pub columns_times-down-requires : goal.columns_times-down-requires
+columns_times-down-requires c =
     let s = c.args.self.now in
     record {
       rows = omega arith;
@@ -32,17 +32,17 @@ returns c =
     let i = place / s.lb in
     let j = place % s.lb in
     let d = drawn_by s c.args.drawn in
-    let up = c.columns-times-up.result in
-    let down = c.columns-times-down.result in
+    let up = c.columns_times-up.result in
+    let down = c.columns_times-down.result in
     let noise = get_or c.args.drawn.noise.now place (pos 0) in
     let short : SFits w16 noise = search rules in
     let wide : SFits w64 noise = omega (arith, ints) in
-    let wide_up : SFits w64 up = omega (arith, ints, c.columns-times-up.ensures.bound) in
-    let wide_down : SFits w64 down = omega (arith, ints, c.columns-times-down.ensures.bound) in
-    let difference : SFits w64 (up -ℤ down) = omega (arith, ints, c.columns-times-up.ensures.bound, c.columns-times-down.ensures.bound) in
-    let total : SFits w64 (up -ℤ down -ℤ noise) = omega (arith, ints, c.columns-times-up.ensures.bound, c.columns-times-down.ensures.bound) in
+    let wide_up : SFits w64 up = omega (arith, ints, c.columns_times-up.ensures.bound) in
+    let wide_down : SFits w64 down = omega (arith, ints, c.columns_times-down.ensures.bound) in
+    let difference : SFits w64 (up -ℤ down) = omega (arith, ints, c.columns_times-up.ensures.bound, c.columns_times-down.ensures.bound) in
+    let total : SFits w64 (up -ℤ down -ℤ noise) = omega (arith, ints, c.columns_times-up.ensures.bound, c.columns_times-down.ensures.bound) in
     let last : noise ≡ d.Eσ i j = ap (λ k. get_or c.args.drawn.noise.now k (pos 0)) (sym (div-add-mod' place s.lb)) in
-    let value : up -ℤ down -ℤ noise ≡ drift s.n d i j = omega (arith, ints, sum_sub s.n (λ r. d.X1 r i *ℤ d.E2 r j) (λ r. d.E1 r i *ℤ d.X2 r j), c.columns-times-up.ensures.value, c.columns-times-down.ensures.value) in
+    let value : up -ℤ down -ℤ noise ≡ drift s.n d i j = omega (arith, ints, sum_sub s.n (λ r. d.X1 r i *ℤ d.E2 r j) (λ r. d.E1 r i *ℤ d.X2 r j), c.columns_times-up.ensures.value, c.columns_times-down.ensures.value) in
     simp to_z-of_z
     (record {
       answer = rw (lt-ltb place (s.la * s.lb) (omega arith)) (ap Ok value);

@@ -2,17 +2,17 @@ use Rattle.std.proofs.Common.{◌+◌, ◌*◌, ◌<◌, length, sym, ◌∙◌,
 use Rattle.wire.proofs.Laws.{length_numbers, get_or_numbers}
 use Rattle.wire.proofs.numbers.Numbers.get.Goals as goal
 
-pub overflow-mul-i : goal.overflow-mul-i
-overflow-mul-i c = omega (arith, length_numbers c.args.self.now.bytes.now)
+pub overflow_mul-i : goal.overflow_mul-i
+overflow_mul-i c = omega (arith, length_numbers c.args.self.now.bytes.now)
 
 pub bounds-self-i : goal.bounds-self-i
 bounds-self-i c = omega (arith, length_numbers c.args.self.now.bytes.now)
 
-pub overflow-mul-i-2 : goal.overflow-mul-i-2
-overflow-mul-i-2 c = omega (arith, length_numbers c.args.self.now.bytes.now)
+pub overflow_mul-i-2 : goal.overflow_mul-i-2
+overflow_mul-i-2 c = omega (arith, length_numbers c.args.self.now.bytes.now)
 
-pub overflow-add-i : goal.overflow-add-i
-overflow-add-i c = omega (arith, length_numbers c.args.self.now.bytes.now)
+pub overflow_add-i : goal.overflow_add-i
+overflow_add-i c = omega (arith, length_numbers c.args.self.now.bytes.now)
 
 pub bounds-self-i-2 : goal.bounds-self-i-2
 bounds-self-i-2 c = omega (arith, length_numbers c.args.self.now.bytes.now)

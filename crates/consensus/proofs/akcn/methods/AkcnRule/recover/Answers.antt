@@ -4,8 +4,8 @@ use Rattle.consensus.proofs.Fits.{akcn_up, akcn_down, by_small, by_some}
 use Rattle.consensus.specs.AkcnAgreement.{akcn_recover_is}
 use Rattle.consensus.proofs.akcn.methods.AkcnRule.recover.Goals as goal
 
-pub floor-mod-requires : goal.floor-mod-requires
-floor-mod-requires c =
+pub floor_mod-requires : goal.floor_mod-requires
+floor_mod-requires c =
     let r = c.args.self.now in
     let up = akcn_up r.q r.m r.g (allowed r) c.args.hint c.if-hint-self.false in
     let down = akcn_down r.q r.m r.g (allowed r) c.args.sum c.if-sum-self.false in

@@ -18,11 +18,11 @@ hinted c =
     let r = c.args.self.now in
     hint_small r.q r.m r.g (allowed r) c.args.sum c.round-shift.result c.if-sum-self.false (placed c)
 
-pub overflow-add-sum : goal.overflow-add-sum
-overflow-add-sum c = omega (arith, placed c)
+pub overflow_add-sum : goal.overflow_add-sum
+overflow_add-sum c = omega (arith, placed c)
 
-pub overflow-mul-self-2 : goal.overflow-mul-self-2
-overflow-mul-self-2 c = omega (arith, hinted c)
+pub overflow_mul-self-2 : goal.overflow_mul-self-2
+overflow_mul-self-2 c = omega (arith, hinted c)
 
 pub round-requires : goal.round-requires
 round-requires c = (hinted c, (omega arith, omega arith))

@@ -4,8 +4,8 @@ use Rattle.consensus.specs.OkcnValues.{allowed}
 use Rattle.consensus.specs.OkcnAgreement.{okcn_recover_is}
 use Rattle.consensus.proofs.okcn.methods.OkcnRule.recover.Goals as goal
 
-pub floor-mod-requires : goal.floor-mod-requires
-floor-mod-requires c =
+pub floor_mod-requires : goal.floor_mod-requires
+floor_mod-requires c =
     let r = c.args.self.now in
     let up = okcn_up r.q r.m r.g (allowed r) c.args.sum c.if-sum-self.false in
     let down = okcn_down r.q r.m r.g (allowed r) c.args.hint c.if-hint-self.false in
