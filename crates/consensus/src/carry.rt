@@ -20,8 +20,8 @@ pub struct Carried {
 
 // Settles `sum` with `draw`, and recovers from `second` with the hint.
 pub fn carry<R: Rule>(rule: &R, sum: u16, draw: u16, second: u16) -> Result<Carried, RuleFault>
-    ensures answer { result ≡ carry_reply (meaning rule.now) sum draw second }
-    ensures agrees { IfOk result (λ c. c.apart ≤ (meaning rule.now).distance → c.recovered ≡ c.digit) }
+    ensures answer { result ≡ carry_reply (R.meaning rule.now) sum draw second }
+    ensures agrees { IfOk result (λ c. c.apart ≤ (R.meaning rule.now).distance → c.recovered ≡ c.digit) }
 {
     let (digit, hint) = rule.settle(sum, draw)?;
     let recovered = rule.recover(second, hint)?;

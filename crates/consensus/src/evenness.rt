@@ -5,5 +5,5 @@ use crate::rule::Rule;
 
 // Does nothing: that it is proved says that under every rule, whatever the hints, any two lists of digits are met equally often.
 pub fn lists_are_even<R: Rule>(rule: &R)
-    ensures { EvenLists (meaning rule.now) }
+    ensures { EvenLists (R.meaning rule.now) }
 {}

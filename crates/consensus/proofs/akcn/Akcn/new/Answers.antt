@@ -11,7 +11,7 @@ invariant_of-result c =
     let (numbers, is) = granted x.q x.m x.g bound _ c.in_ok-d.d c.in_ok-d.ensures in
     let limits = numbers.allowed in
     let meets = subst (Meets x.m x.g bound) (sym is) numbers.largest.meets in
-    (limits.modulus, (limits.digits, (limits.hints, (limits.within, (meets, (is, tt))))))
+    record { modulus = limits.modulus; digits = limits.digits; hints = limits.hints; within = limits.within; meets = meets; largest = is }
 
 pub returns : goal.returns
 returns c =

@@ -20,7 +20,7 @@ invariant_of-result c =
     let limits = numbers.allowed in
     let meets = subst (Meets x.m x.g bound) (sym is) numbers.largest.meets in
     let draws = ap (λ (n : ℕ). x.m / n) c.gcd.ensures.answer in
-    (limits.modulus, (limits.digits, (limits.hints, (limits.within, (meets, (is, (draws, tt)))))))
+    record { modulus = limits.modulus; digits = limits.digits; hints = limits.hints; within = limits.within; meets = meets; largest = is; drawn = draws }
 
 pub returns : goal.returns
 returns c =
