@@ -9,7 +9,7 @@ returns-in_default c = record { answer = refused c.args.n c.args.q (omega arith)
 pub invariant_of-result : goal.invariant_of-result
 invariant_of-result c =
     let (some, few, is) = c.in-Some.ensures in
-    ((omega arith, omega arith), ((some, few), (take-replicate c.args.n 1024 0 (omega arith), tt)))
+    record { side = (omega arith, omega arith); power = (some, few); expanded = take-replicate c.args.n 1024 0 (omega arith) }
 
 pub returns : goal.returns
 returns c =

@@ -7,6 +7,6 @@ pub returns : goal.returns
 returns c =
     let s = c.args.self.now in
     let q = 2 ^ s.bits in
-    let f : ℕ → ℕ = entry_at q (row_bytes s.n s.seed c.in-Some.-row) in
+    let f : ℕ → ℕ = entry_at q (row_bytes s.n s.seed c.in-Some._row) in
     let read = read_at f s.entries s.n c.args.j c.if-j-self.false (s.expanded ∙ ap (held s.n q s.seed) c.in-Some.is) in
     search rules
