@@ -1,7 +1,7 @@
 -- Evenness: where every sum and draw is equally likely, a hint says nothing of the digit, at one place and at many.
 -- Assumes nothing.
 use Rattle.std.specs.Prelude.{◌≡◌, ℕ, zero, suc, ◌<◌, Bool, true, false, ◌&&◌, List, [], ◌∷◌, map, length, count_by, ◌==◌}
-use Rattle.std.specs.List.{range_with_len, flat_map, AllByRecursion as All}
+use Rattle.std.specs.List.{range_with_len, flat_map, AllByRecursion}
 use Rattle.consensus.specs.Consensus.{Consensus, settle_all, digits_of, hints_of}
 
 -- every pair of one of xs and one of ys
@@ -42,7 +42,7 @@ Even c =
 -- `len` numbers, all below n
 pub record AllBelow (n len : ℕ) (xs : List ℕ) : Type 0 where
   pub long : length xs ≡ len
-  pub below : All (λ x. x < n) xs
+  pub below : AllByRecursion (λ x. x < n) xs
 
 -- whatever the hints, any two lists of digits are met equally often
 abbrev pub EvenLists : Consensus → Type 0

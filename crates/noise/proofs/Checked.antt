@@ -1,6 +1,6 @@
 -- One test of a law, which all laws of the table pass, and what follows from it. Assumes nothing.
 use Rattle.std.proofs.Common.{◌≡◌, ℕ, zero, suc, ◌+◌, ◌-◌, ◌*◌, ◌%◌, ◌^◌, ◌<◌, ◌≤◌, Bool, true, cond, ◌&&◌, eqb, leb, List, [], ◌∷◌, map, length, get_or, replicate, ℤ, pos, negsuc, Ok, Err, count_by, sym, refl, ap, ◌∙◌, subst, ap₂, not-suc-le-zero, add-zero, mod-eq_of_lt, one-mul, zero-add, arith, pow_mono}
-use Rattle.std.specs.List.{range_with_len, AllByRecursion as All}
+use Rattle.std.specs.List.{range_with_len, AllByRecursion}
 use Rattle.std.proofs.lemmas.List.FromFn.{get_or-range_with_len, length-range_with_len}
 use Rattle.std.proofs.ByRecursion.{All-get_or, All-weaker}
 use Rattle.std.proofs.lemmas.List.Sums.{sum_by-cons, sum_by-append, count_by-le-length}
@@ -17,7 +17,7 @@ every : {X : Type 0} → (X → Bool) → List X → Bool
 every test [] = true
 every test (x ∷ xs) = test x && every test xs
 
-all_every : {X : Type 0} (test : X → Bool) (xs : List X) → every test xs ≡ true → All (λ x. test x ≡ true) xs
+all_every : {X : Type 0} (test : X → Bool) (xs : List X) → every test xs ≡ true → AllByRecursion (λ x. test x ≡ true) xs
 unfolding every
 all_every test [] e = tt
 all_every test (x ∷ xs) e = let p = and_parts (test x) (every test xs) e in (p.0, all_every test xs p.1)

@@ -1,6 +1,6 @@
 -- Any list of shares: how many words go to a value, and which place a word's share has. Assumes nothing.
 use Rattle.std.proofs.Common.{◌≡◌, ℕ, zero, suc, ◌+◌, ◌-◌, ◌<◌, ◌≤◌, Bool, true, false, cond, leb, List, [], ◌∷◌, ◌++◌, map, get_or, ℤ, pos, sum_by, count_by, sym, refl, ap, ◌∙◌, subst, ap₂, ⊎_elim, not-suc-le-zero, add-zero, suc-add, zero-add, one-add, arith}
-use Rattle.std.specs.List.{range_with_len, ContainsAt as Has}
+use Rattle.std.specs.List.{range_with_len, ContainsAt}
 use Rattle.std.proofs.ByRecursion.{has_append_right}
 use Rattle.std.proofs.lemmas.List.Sums.{sum_by-cons, sum_by-append}
 use Rattle.std.proofs.lemmas.Bool.{lt-ltb, le-ltb, le-leb, lt-leb, cases_lt}
@@ -87,13 +87,13 @@ words_met shares value =
     ∙ words_from shares value 0
 
 -- a word that is dealt to the shares goes to a value of theirs
-pub among : (shares : List Share) (word : ℕ) → word < total shares → Has (map (λ s. s.value) shares) (found shares word)
+pub among : (shares : List Share) (word : ℕ) → word < total shares → ContainsAt (map (λ s. s.value) shares) (found shares word)
 among [] word h = absurd (not-suc-le-zero h)
 among (s ∷ shares) word h =
     let all = sum_by-cons (λ s. s.count) s shares in
     ⊎_elim
-    (λ l. subst (Has (map (λ s. s.value) (s ∷ shares))) (sym (in_first s shares word l)) (0, omega arith, λ d. refl))
-    (λ g. subst (Has (map (λ s. s.value) (s ∷ shares))) (sym (in_others s shares word g))
+    (λ l. subst (ContainsAt (map (λ s. s.value) (s ∷ shares))) (sym (in_first s shares word l)) (0, omega arith, λ d. refl))
+    (λ g. subst (ContainsAt (map (λ s. s.value) (s ∷ shares))) (sym (in_others s shares word g))
     (has_append_right (s.value ∷ []) (map (λ s. s.value) shares) (found shares (word - s.count)) (among shares (word - s.count) (omega arith))))
     (cases_lt word s.count)
 

@@ -1,6 +1,6 @@
 -- What the table of the laws is to keep. Assumes nothing.
 use Rattle.std.specs.Prelude.{◌≡◌, ℕ, ◌^◌, ◌<◌, ◌≤◌, Bool, false, map, ℤ, pos, negsuc, sum_by, count_by, ◌==◌}
-use Rattle.std.specs.List.{range_with_len, ContainsAt as Has, AllByRecursion as All}
+use Rattle.std.specs.List.{range_with_len, ContainsAt, AllByRecursion}
 use Rattle.noise.specs.Laws.{Law, law_of, found}
 
 abbrev pub same : ℤ → ℤ → Bool
@@ -17,9 +17,9 @@ pub record Holds (law : Law) : Type 0 where
   -- the shares use up the words
   pub total : sum_by (λ s. s.count) law.shares ≡ 2 ^ law.width
   -- each value gets as many words as the table says
-  pub counts : All (λ s. words_to law s.value ≡ s.count) law.shares
+  pub counts : AllByRecursion (λ s. words_to law s.value ≡ s.count) law.shares
   -- no word goes elsewhere
-  pub nowhere_else : (word : ℕ) → word < 2 ^ law.width → Has (map (λ s. s.value) law.shares) (found law.shares word)
+  pub nowhere_else : (word : ℕ) → word < 2 ^ law.width → ContainsAt (map (λ s. s.value) law.shares) (found law.shares word)
 
 abbrev pub TablesHold : Type 0
 TablesHold = (number : ℕ) → number ≤ 5 → Holds (law_of number)

@@ -1,6 +1,5 @@
 -- What the loops and the tests of a request's words come to. Assumes nothing.
 use Rattle.std.proofs.Common.{◌≡◌, ℕ, ◌+◌, ◌-◌, ◌<◌, ◌≤◌, Bool, true, false, cond, ltb, List, [], ◌∷◌, ◌++◌, length, get_or, take, drop, Some, None, Ok, Err, decimal, Decides, Option, sym, ap, ◌∙◌, append_assoc, append-nil, zero-add, arith}
-use Rattle.std.specs.Cmp.Lexicographic.{Matches}
 use Rattle.std.specs.List.{flat_map}
 use Rattle.std.specs.Str.{bytes_eq}
 use Rattle.std.proofs.lemmas.List.FromFn.{map-range_with_len_more}
@@ -12,13 +11,6 @@ use Rattle.matrix.specs.declared.fault.SourceFault.TheVariants.{Column}
 use Rattle.text.specs.Words.{place}
 use Rattle.vector_line.specs.Rows.{entries_to, spaced_number, spaced_text}
 use Rattle.std.proofs.lemmas.Bool.Decides.{Decides-eqb}
-
--- `==` on bytes
-pub tested : (xs ys : List ℕ) (r : Bool) → Matches (λ (a b : ℕ) (t : Bool). Decides t (a ≡ b)) xs ys r → r ≡ bytes_eq xs ys
-tested xs ys r m =
-    let d = slice_eq-Decides Decides-eqb xs ys r m in
-    let s = bytes_eq-Decides xs ys in
-    grind arith
 
 -- one more entry of a row
 pub one_more : (m : Matrices) (row : Option Row) (j entry : ℕ) (before after : List ℕ)
