@@ -4,7 +4,7 @@ use Rattle.wire.specs.Messages.{Taken, InRange}
 use Rattle.wire.specs.Views.{answered, offered}
 use Rattle.wire.specs.declared.kind.Kind.TheVariants.{Answer, Offer}
 use Rattle.wire.specs.declared.reading.Answer as reading
-use Rattle.wire.specs.declared.reading.Offer as reading-offer
+use Rattle.wire.specs.declared.reading.Offer as reading_offer
 use Rattle.ends.specs.declared.answering.AnsweringState.{AnsweringState}
 use Rattle.ends.specs.declared.fault.EndFault.{EndFault}
 use Rattle.ends.specs.declared.opening.OpeningState.{OpeningState}
@@ -19,7 +19,7 @@ Accepts s state message r =
     (λ answer. (take_fault s state message ≡ None) × Taken (extent s) Answer message (answered answer) × InRange s.rule.modulus s.rule.hints (answered answer))
     (λ fault. take_fault s state message ≡ Some fault)
 
-abbrev pub AcceptsOffer : Setting → AnsweringState → List ℕ → Result reading-offer.Offer EndFault → Type 0
+abbrev pub AcceptsOffer : Setting → AnsweringState → List ℕ → Result reading_offer.Offer EndFault → Type 0
 AcceptsOffer s state message r =
     MatchResult r
     (λ offer. (offer_fault s state message ≡ None) × Taken (extent s) Offer message (offered offer) × InRange s.rule.modulus s.rule.hints (offered offer))

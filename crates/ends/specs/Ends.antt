@@ -27,11 +27,11 @@ abbrev pub answering_works : {R S : Type 0} → AnsweringEnd R S → Works R S
 answering_works e = record { rule = e.rule; source = e.source; la = e.la; lb = e.lb; law = e.law }
 
 -- and what that means
-module _ {R S : Type 0} (rule-of : R → Consensus) (matrices-of : S → Matrices) where
+module _ {R S : Type 0} (rule_of : R → Consensus) (matrices_of : S → Matrices) where
   abbrev pub setting : Works R S → Setting
   setting w = record {
-    rule = rule-of w.rule.now;
-    matrices = matrices-of w.source;
+    rule = rule_of w.rule.now;
+    matrices = matrices_of w.source;
     la = w.la;
     lb = w.lb;
     law = w.law;
@@ -50,20 +50,20 @@ abbrev pub answering_state : {R S : Type 0} → AnsweringEnd R S → AnsweringSt
 answering_state e = e.state
 
 -- for either end, by what it works by and by its state
-module _ {R S E T : Type 0} (works : E → Works R S) (state-of : E → T) where
+module _ {R S E T : Type 0} (works : E → Works R S) (state_of : E → T) where
   -- a call keeps what the end works by, but for the row that its source is turned to; a refused one keeps the whole end
-  pub record Kept {X : Type 0} (matrices-of : S → Matrices) (before after : E) (r : Result X EndFault) : Type 0 where
+  pub record Kept {X : Type 0} (matrices_of : S → Matrices) (before after : E) (r : Result X EndFault) : Type 0 where
     pub rule : (works after).rule ≡ (works before).rule
     pub la : (works after).la ≡ (works before).la
     pub lb : (works after).lb ≡ (works before).lb
     pub law : (works after).law ≡ (works before).law
-    pub matrices : matrices-of (works after).source ≡ matrices-of (works before).source
+    pub matrices : matrices_of (works after).source ≡ matrices_of (works before).source
     pub refused : (fault : EndFault) → r ≡ Err fault → after ≡ before
 
   -- nothing but the session is forgotten
   pub record Forgets (blank : T) (before after : E) : Type 0 where
     pub same : works after ≡ works before
-    pub state : state-of after ≡ blank
+    pub state : state_of after ≡ blank
 
   pub record New (rule : R) (source : S) (la lb law : ℕ) (blank : T) (e : E) : Type 0 where
     pub rule_is : (works e).rule.now ≡ rule
@@ -71,7 +71,7 @@ module _ {R S E T : Type 0} (works : E → Works R S) (state-of : E → T) where
     pub la_is : (works e).la ≡ la
     pub lb_is : (works e).lb ≡ lb
     pub law_is : (works e).law ≡ law
-    pub state : state-of e ≡ blank
+    pub state : state_of e ≡ blank
 
 -- what a new end is refused for: columns or a law outside their limits, then two moduli
 abbrev pub new_fault : Consensus → Matrices → (la lb law : ℕ) → Option EndFault

@@ -4,11 +4,9 @@ ghost use Rattle.std.specs.Prelude.{◌≤◌};
 mod calls;
 
 use crate::answering::AnsweringState;
-use consensus::rule::Rule;
-use matrix::source::MatrixSource;
 
 #[derive(Drop)]
-pub struct AnsweringEnd<'r, R: Rule, S: MatrixSource> {
+pub struct AnsweringEnd<'r, R, S> {
     rule: &'r R,
     source: S,
     la: usize,

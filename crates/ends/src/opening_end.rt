@@ -4,11 +4,9 @@ ghost use Rattle.std.specs.Prelude.{◌≤◌};
 mod calls;
 
 use crate::opening::OpeningState;
-use consensus::rule::Rule;
-use matrix::source::MatrixSource;
 
 #[derive(Drop)]
-pub struct OpeningEnd<'r, R: Rule, S: MatrixSource> {
+pub struct OpeningEnd<'r, R, S> {
     rule: &'r R,
     source: S,
     la: usize,
