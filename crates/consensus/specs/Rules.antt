@@ -1,5 +1,5 @@
 -- The rules OKCN and AKCN over a modulus q, m digits and g hints. Assumes nothing.
-use Rattle.std.specs.Prelude.{ℕ, ◌+◌, ◌-◌, ◌*◌, ◌/◌, ◌%◌, ◌<◌, ◌≤◌, ℤ, pos, ◌+ℤ◌, ◌-ℤ◌, ◌*ℤ◌}
+use Rattle.std.specs.Prelude.{ℕ, ◌+◌, ◌-◌, ◌*◌, ◌/◌, ◌%◌, ◌<◌, ◌≤◌, pos, ◌+ℤ◌, ◌-ℤ◌, ◌*ℤ◌}
 use Rattle.consensus.specs.Arithmetic.{residue, floor, round, nearest, gcd}
 use Rattle.consensus.specs.Consensus.{Consensus}
 use Rattle.consensus.specs.Laws.{Between}

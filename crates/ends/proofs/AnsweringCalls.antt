@@ -1,5 +1,5 @@
 -- What the checks of an answering end come to. Assumes nothing.
-use Rattle.std.proofs.Common.{◌≡◌, ℕ, ◌+◌, ◌*◌, ◌^◌, ◌<◌, ◌≤◌, true, false, ltb, leb, List, length, get_or, replicate, pos, Some, None, Ok, Err, sym, refl, ap, ◌∙◌, subst, arith, le-ltb, lt-ltb, le-leb, leb-true}
+use Rattle.std.proofs.Common.{◌≡◌, ℕ, ◌+◌, ◌*◌, ◌^◌, ◌<◌, ◌≤◌, true, false, ltb, leb, List, length, get_or, replicate, pos, Some, None, Ok, Err, sym, ap, ◌∙◌, subst, arith, le-ltb, lt-ltb, le-leb, leb-true}
 use Rattle.consensus.specs.Consensus.{Consensus, settle_all, digits_of, hints_of}
 use Rattle.matrix.specs.Matrices.{Matrices}
 use Rattle.matrix.specs.declared.fault.SourceFault.TheVariants.{UnknownSeed}

@@ -1,12 +1,11 @@
 -- What checks tell that were passed or not. Assumes nothing.
-use Rattle.std.proofs.Common.{◌≡◌, ℕ, ◌+◌, ◌<◌, ◌≤◌, Bool, true, false, cond, eqb, ltb, List, length, get_or, Some, None, Ok, Err, Option, Result, sym, refl, ap, ◌∙◌, arith}
+use Rattle.std.proofs.Common.{◌≡◌, ℕ, ◌+◌, ◌<◌, ◌≤◌, Bool, true, false, cond, eqb, List, length, get_or, Some, None, Ok, Err, Option, Result, sym, refl, ◌∙◌, arith}
 use Rattle.std.proofs.lemmas.Bool.{lt-ltb, eqb-true}
 use Rattle.matrix.specs.Matrices.{Matrices}
 use Rattle.matrix.specs.Replies.{turn_reply}
 use Rattle.matrix.specs.declared.fault.SourceFault.{SourceFault}
-use Rattle.matrix.specs.declared.fault.SourceFault.TheVariants.{Row, UnknownSeed}
+use Rattle.matrix.specs.declared.fault.SourceFault.TheVariants.{UnknownSeed}
 use Rattle.ends.specs.declared.draws.WordsNeeded.{WordsNeeded}
-use Rattle.ends.specs.declared.fault.EndFault.{EndFault}
 use Rattle.ends.specs.declared.fault.EndFault.TheVariants.{DrawCount}
 use Rattle.ends.specs.Draws.{draw_fault, first_over, limit_at}
 use Rattle.ends.specs.Refusals.{check, first_of, unless}

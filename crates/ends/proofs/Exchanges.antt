@@ -1,18 +1,17 @@
 -- One undisturbed session. Assumes nothing.
-use Rattle.std.proofs.Common.{◌≡◌, ℕ, zero, suc, ◌+◌, ◌-◌, ◌*◌, ◌/◌, ◌%◌, ◌<◌, ◌≤◌, min, List, length, get_or, ℤ, pos, ◌+ℤ◌, ◌-ℤ◌, ◌*ℤ◌, sym, refl, ap, ◌∙◌, subst, mul-le-mul_right, arith}
+use Rattle.std.proofs.Common.{◌≡◌, ℕ, zero, suc, ◌+◌, ◌*◌, ◌/◌, ◌%◌, ◌<◌, ◌≤◌, get_or, ℤ, pos, ◌+ℤ◌, ◌-ℤ◌, ◌*ℤ◌, sym, ap, ◌∙◌, mul-le-mul_right, arith}
 use Rattle.std.proofs.lemmas.Nat.{div_below, div-mul-add, mod_below, mod-mul-add}
 use Rattle.std.proofs.lemmas.List.FromFn.{get_or-map-range_with_len}
 use Rattle.consensus.specs.Arithmetic.{apart, around, residue}
-use Rattle.consensus.specs.Consensus.{digits_of, hints_of}
+use Rattle.consensus.specs.Consensus.{hints_of}
 use Rattle.consensus.specs.Residues.{residue_below, residue_is}
 use Rattle.lwe.specs.Exchange.{Y1, Y2, Σ1, Σ2, answering_sum, opening_sum, drift}
 use Rattle.lwe.specs.Images.{public_matrix}
-use Rattle.lwe.specs.Matrices.{Matrix, Residues, by_rows, plain, signed, sum, whole}
+use Rattle.lwe.specs.Matrices.{Matrix, Residues, by_rows, plain}
 use Rattle.lwe.proofs.DriftIdentity.{drift_identity}
 use Rattle.lwe.proofs.FiniteSums.{sum_same}
 use Rattle.ends.specs.Agreement.{Exchange, ExchangeAgrees, drawn, sent_Y1, sent_Y2, settling}
-use Rattle.ends.specs.AnsweringStates.{drawn_X2, drawn_Eσ, rule_draws, sums}
-use Rattle.ends.specs.OpeningStates.{drawn_X1, offered}
+use Rattle.ends.specs.AnsweringStates.{rule_draws, sums}
 use Rattle.ends.proofs.Arrays.{length_by_rows}
 use Rattle.ends.proofs.AnsweringCalls.{hints_count}
 use Rattle.ends.proofs.Drawing.{last_count}

@@ -1,5 +1,5 @@
 -- The limit of noise words, as it is computed. Assumes nothing.
-use Rattle.std.proofs.Common.{◌≡◌, ℕ, ◌*◌, ◌%◌, ◌^◌, ◌<◌, ◌≤◌, sym, ap, ◌∙◌, mod-eq_of_lt, one-mul, arith}
+use Rattle.std.proofs.Common.{◌≡◌, ℕ, ◌*◌, ◌%◌, ◌^◌, ◌<◌, ◌≤◌, ap, ◌∙◌, mod-eq_of_lt, one-mul, arith}
 use Rattle.noise.specs.Laws.{width_of}
 use Rattle.noise.proofs.Checked.{width_short, words_end}
 

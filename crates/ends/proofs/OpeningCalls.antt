@@ -1,5 +1,5 @@
 -- What the checks of an opening end come to. Assumes nothing.
-use Rattle.std.proofs.Common.{◌≡◌, ℕ, ◌+◌, ◌*◌, ◌^◌, ◌<◌, ◌≤◌, true, false, not, eqb, ltb, leb, ◌⊎◌, List, length, get_or, Some, None, Ok, Err, sym, refl, ap, ◌∙◌, subst, inl, inr, arith, lt-ltb, eq-eqb, eqb-true, leb-true}
+use Rattle.std.proofs.Common.{◌≡◌, ℕ, ◌*◌, ◌^◌, ◌<◌, ◌≤◌, true, false, not, eqb, ltb, leb, ◌⊎◌, List, length, get_or, Some, None, Ok, Err, sym, ap, ◌∙◌, subst, inl, inr, arith, lt-ltb, eq-eqb, eqb-true, leb-true}
 use Rattle.matrix.specs.declared.fault.SourceFault.TheVariants.{UnknownSeed}
 use Rattle.noise.specs.Laws.{width_of}
 use Rattle.consensus.specs.Consensus.{Consensus}

@@ -1,5 +1,5 @@
 -- Digits and hints by their place. Assumes nothing.
-use Rattle.std.proofs.Common.{◌≡◌, ℕ, zero, suc, ◌<◌, ◌≤◌, Bool, true, false, cond, List, [], ◌∷◌, length, get_or, Ok, Result, sym, refl, ap, ◌∙◌, arith, lt-ltb}
+use Rattle.std.proofs.Common.{◌≡◌, ℕ, zero, suc, ◌<◌, ◌≤◌, List, [], ◌∷◌, length, get_or, Ok, Result, refl, ap, ◌∙◌, arith, lt-ltb}
 use Rattle.consensus.specs.Consensus.{Consensus, settle_all, digits_of, hints_of}
 use Rattle.consensus.specs.Replies.{settle_reply, recover_reply}
 use Rattle.consensus.specs.declared.fault.RuleFault.{RuleFault}

@@ -1,8 +1,8 @@
 -- What a written message is to the end that wrote it. Assumes nothing.
-use Rattle.std.proofs.Common.{◌≡◌, ℕ, ◌≤◌, Bool, true, false, cond, leb, List, ◌++◌, length, drop, is_ok, Ok, Err, Result, sym, refl, ap, ◌∙◌, le-leb}
+use Rattle.std.proofs.Common.{◌≡◌, ℕ, ◌≤◌, Bool, true, false, cond, leb, List, ◌++◌, length, drop, is_ok, Ok, Err, Result, sym, ap, ◌∙◌, le-leb}
 use Rattle.lwe.specs.Limits.{Dimensions}
 use Rattle.wire.specs.Headers.{message_length}
-use Rattle.wire.specs.Messages.{Fields, encode, Written, write_reply, buffer_after}
+use Rattle.wire.specs.Messages.{Fields, encode, Written, buffer_after}
 use Rattle.wire.specs.declared.fault.WireFault.{WireFault}
 use Rattle.wire.specs.declared.fault.WireFault.TheVariants.{Room}
 use Rattle.wire.specs.declared.kind.Kind.{Kind}

@@ -1,5 +1,5 @@
 -- The words that the calls take, and the matrices drawn by them. Assumes nothing.
-use Rattle.std.specs.Prelude.{ℕ, ◌+◌, ◌*◌, cond, List, [], ◌∷◌, map, length, ℤ, Some, None, Option, ◌==◌, nat_lt}
+use Rattle.std.specs.Prelude.{ℕ, ◌+◌, cond, List, [], ◌∷◌, length, None, Option, ◌==◌, nat_lt}
 use Rattle.ends.specs.declared.draws.WordsNeeded.{WordsNeeded}
 use Rattle.ends.specs.declared.fault.EndFault.{EndFault}
 use Rattle.ends.specs.declared.fault.EndFault.TheVariants.{DrawCount, Draw}

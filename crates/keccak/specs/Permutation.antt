@@ -1,6 +1,6 @@
 -- The permutation KECCAK-p[1600, 24] of FIPS 202, lane by lane. A state array A is a list of 25 lanes, each a number below
 -- 2 ^ 64: lane (x, y) stands at 5 * y + x, and its bit z is A[x, y, z]. Coordinates are taken modulo 5. Assumes nothing.
-use Rattle.std.specs.Prelude.{ℕ, zero, suc, ◌+◌, ◌-◌, ◌*◌, ◌/◌, ◌%◌, ◌^◌, cond, ◌&&◌, List, [], ◌∷◌, map, set, sum, ◌==◌, bit_and, bit_xor, nat_lt, slice_index, slice_set}
+use Rattle.std.specs.Prelude.{ℕ, zero, suc, ◌+◌, ◌-◌, ◌*◌, ◌/◌, ◌%◌, ◌^◌, cond, ◌&&◌, List, [], ◌∷◌, map, sum, ◌==◌, bit_and, bit_xor, nat_lt, slice_index, slice_set}
 use Rattle.std.specs.List.{range_with_len}
 use Rattle.keccak.specs.Rotation.{rotate}
 

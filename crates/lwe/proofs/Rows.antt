@@ -1,9 +1,8 @@
 -- Rows that are read one after another from a source. Assumes nothing.
-use Rattle.std.proofs.Common.{◌≡◌, ℕ, ◌+◌, ◌<◌, Bool, true, false, cond, ltb, List, Some, None, Ok, Err, Option, Result, sym, refl, ap, ◌∙◌, arith, lt-ltb}
-use native.Mathlib.Decide.{dec_lt}
+use Rattle.std.proofs.Common.{◌≡◌, ℕ, ◌+◌, ◌<◌, Bool, true, false, cond, ltb, List, Some, None, Ok, Err, Option, Result, sym, refl, ap, ◌∙◌, arith}
 use Rattle.matrix.specs.Matrices as matrices
 use Rattle.matrix.specs.Matrices.{Matrices}
-use Rattle.matrix.specs.Replies.{Turn, turn_reply, column_reply}
+use Rattle.matrix.specs.Replies.{Turn, column_reply}
 use Rattle.matrix.specs.declared.fault.SourceFault.{SourceFault}
 use Rattle.matrix.specs.declared.fault.SourceFault.TheVariants.{Row, Column, UnknownSeed}
 

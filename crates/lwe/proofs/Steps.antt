@@ -1,11 +1,10 @@
 -- What the loops over the rows of the public matrix come to, and what they answer. Assumes nothing.
-use Rattle.std.proofs.Common.{◌≡◌, ℕ, ◌+◌, ◌*◌, ◌/◌, ◌%◌, ◌<◌, true, false, cond, List, length, get_or, ℤ, pos, ◌+ℤ◌, ◌*ℤ◌, Ok, Err, sym, ap, ◌∙◌, arith, eq-eqb}
+use Rattle.std.proofs.Common.{◌≡◌, ℕ, ◌+◌, ◌*◌, ◌/◌, ◌%◌, ◌<◌, List, length, get_or, ℤ, pos, ◌+ℤ◌, ◌*ℤ◌, Ok, sym, ap, ◌∙◌, arith, eq-eqb}
 use Rattle.std.proofs.lemmas.Nat.{div-mul-add, mod-mul-add}
 use Rattle.consensus.specs.Arithmetic.{residue}
 use Rattle.matrix.specs.Matrices.{Matrices}
-use Rattle.matrix.specs.declared.fault.SourceFault.{SourceFault}
 use Rattle.lwe.specs.Exchange.{Y1, Y2}
-use Rattle.lwe.specs.Images.{Imaged, image_reply}
+use Rattle.lwe.specs.Images.{Imaged}
 use Rattle.lwe.specs.Matrices.{Matrix, Residues, whole, sum, times, transposed, plus, reduced, signed, by_rows, padded}
 use Rattle.lwe.proofs.FiniteSums.{sum_same, sum_more}
 use Rattle.lwe.proofs.Places.{by_rows_same}

@@ -1,5 +1,5 @@
 -- What the exchange comes to at a few small numbers. Assumes nothing.
-use Rattle.std.specs.Prelude.{◌≡◌, ℕ, List, [], ◌∷◌, ℤ, pos, negsuc}
+use Rattle.std.specs.Prelude.{◌≡◌, ℕ, [], ◌∷◌, pos, negsuc}
 use Rattle.consensus.specs.Arithmetic.{around}
 use Rattle.lwe.specs.Exchange.{Y1, Y2, Σ1, Σ2, Drawn, drift}
 use Rattle.lwe.specs.Matrices.{Matrix, by_rows, padded, plain, signed}

@@ -1,16 +1,13 @@
 -- What the loops and the tests of a request's words come to. Assumes nothing.
-use Rattle.std.proofs.Common.{◌≡◌, ℕ, ◌+◌, ◌-◌, ◌<◌, ◌≤◌, Bool, true, false, cond, ltb, List, [], ◌∷◌, ◌++◌, length, get_or, take, drop, Some, None, Ok, Err, decimal, Decides, Option, sym, ap, ◌∙◌, append_assoc, append-nil, zero-add, arith}
+use Rattle.std.proofs.Common.{◌≡◌, ℕ, ◌+◌, ◌-◌, ◌<◌, ◌≤◌, Bool, true, false, cond, ltb, List, [], ◌∷◌, ◌++◌, length, get_or, take, drop, Some, None, Ok, Err, decimal, Option, sym, ap, ◌∙◌, append_assoc, append-nil, zero-add, arith}
 use Rattle.std.specs.List.{flat_map}
-use Rattle.std.specs.Str.{bytes_eq}
 use Rattle.std.proofs.lemmas.List.FromFn.{map-range_with_len_more}
-use Rattle.std.proofs.lemmas.Slice.Eq.{slice_eq-Decides, bytes_eq-Decides}
 use Rattle.std.proofs.lemmas.List.{at_drop_more, at_drop_all, take_all, take-append-le, take_rest, drop_all}
 use Rattle.matrix.specs.Matrices.{Matrices, Row}
 use Rattle.matrix.specs.Replies.{column_reply}
 use Rattle.matrix.specs.declared.fault.SourceFault.TheVariants.{Column}
 use Rattle.text.specs.Words.{place}
 use Rattle.vector_line.specs.Rows.{entries_to, spaced_number, spaced_text}
-use Rattle.std.proofs.lemmas.Bool.Decides.{Decides-eqb}
 
 -- one more entry of a row
 pub one_more : (m : Matrices) (row : Option Row) (j entry : ℕ) (before after : List ℕ)

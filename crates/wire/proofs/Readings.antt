@@ -1,5 +1,5 @@
 -- A message reads back as its fields, and is their only writing. Assumes nothing.
-use Rattle.std.proofs.Common.{◌≡◌, ℕ, ◌+◌, ◌-◌, ◌*◌, List, [], ◌++◌, length, get_or, take, drop, None, sym, refl, ap, ◌∙◌, subst, append_assoc, arith}
+use Rattle.std.proofs.Common.{◌≡◌, ℕ, ◌+◌, ◌-◌, ◌*◌, List, [], ◌++◌, length, take, drop, None, sym, refl, ap, ◌∙◌, subst, append_assoc, arith}
 use Rattle.std.proofs.lemmas.List.{drop_all, drop-drop, drop_at, take_all, take_at, take-append-drop, take_rest, length-append, length-drop, length-take-le, get_or-drop}
 use Rattle.std.proofs.lemmas.Bool.{cond-true, le-leb}
 use Rattle.lwe.specs.Limits.{Dimensions}
@@ -8,7 +8,7 @@ use Rattle.wire.specs.declared.kind.Kind.TheVariants.{Offer, Answer}
 use Rattle.wire.specs.Bytes.{number_at, bytes_of, numbers_of}
 use Rattle.wire.specs.Faults.{first_of}
 use Rattle.wire.specs.Headers.{message_length, header, fields, header_of, short_fault, field_fault, header_fault}
-use Rattle.wire.specs.Messages.{Fields, offer, answer, seed_size, entry_count, hint_count, encode, decode, Sized, Taken, InRange, number_fault, ReadsBack}
+use Rattle.wire.specs.Messages.{Fields, offer, answer, seed_size, entry_count, hint_count, encode, decode, Sized, Taken, number_fault, ReadsBack}
 use Rattle.wire.proofs.Checks.{sound, fields_fine, header_number, header_length, below_over}
 use Rattle.wire.proofs.Heads.{head_back, head_only}
 use Rattle.wire.proofs.Laws.{Bytes, numbers_bytes, bytes_numbers, length_bytes, length_numbers, take_numbers, drop_numbers}

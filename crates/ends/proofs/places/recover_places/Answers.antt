@@ -1,4 +1,4 @@
-use Rattle.std.proofs.Common.{◌≡◌, length, get_or, sym, ap, ◌∙◌, arith}
+use Rattle.std.proofs.Common.{length, get_or, sym, ap, ◌∙◌, arith}
 use Rattle.lwe.specs.Matrices.{padded}
 use Rattle.lwe.proofs.Arrays.{padded_more, padded_all}
 use Rattle.ends.specs.Keys.{recover_all}

@@ -1,4 +1,4 @@
-use Rattle.std.proofs.Common.{◌≡◌, ℕ, length, get_or, sym, ap, ◌∙◌, arith}
+use Rattle.std.proofs.Common.{ℕ, length, get_or, sym, ap, ◌∙◌, arith}
 use Rattle.consensus.specs.Consensus.{settle_all, digits_of, hints_of}
 use Rattle.lwe.specs.Matrices.{padded}
 use Rattle.lwe.proofs.Arrays.{padded_more, padded_all}

@@ -1,4 +1,4 @@
-use Rattle.std.proofs.Common.{◌≡◌, ℕ, ◌+◌, ◌*◌, length, get_or, ℤ, pos, ◌+ℤ◌, ◌*ℤ◌, ap, ◌∙◌, arith, w16, w64, SFits, rules}
+use Rattle.std.proofs.Common.{ℕ, ◌+◌, ◌*◌, length, get_or, ℤ, pos, ◌+ℤ◌, ◌*ℤ◌, ap, ◌∙◌, arith, w16, w64, SFits, rules}
 use Rattle.std.proofs.lemmas.List.Edits.{fill_by_more, get_or-between}
 use Rattle.std.proofs.lemmas.Int.{to_z-of_z}
 use Rattle.consensus.specs.Arithmetic.{residue}

@@ -1,4 +1,4 @@
-use Rattle.std.proofs.Common.{◌≡◌, ℕ, ◌+◌, ◌*◌, ◌/◌, ◌%◌, ◌<◌, ◌≤◌, get_or, pos, ◌∙◌, div-add-mod', arith, w16, w64, SFits, rules}
+use Rattle.std.proofs.Common.{◌+◌, ◌*◌, ◌/◌, ◌%◌, get_or, pos, ◌∙◌, div-add-mod', arith, w16, w64, SFits, rules}
 use Rattle.std.proofs.lemmas.Nat.{div_below, mod_below, mul-le}
 use Rattle.std.proofs.lemmas.Int.{to_z-of_z}
 use Rattle.lwe.specs.Matrices.{plus, reduced, signed, transposed}

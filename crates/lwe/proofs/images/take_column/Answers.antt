@@ -1,4 +1,4 @@
-use Rattle.std.proofs.Common.{◌≡◌, ℕ, ℤ, pos, ap, ◌∙◌, arith, w16, SFits, rules}
+use Rattle.std.proofs.Common.{ℕ, ℤ, pos, arith, w16, SFits, rules}
 use Rattle.std.proofs.lemmas.List.Edits.{fill_by_more}
 use Rattle.std.proofs.lemmas.Int.{to_z-of_z}
 use Rattle.lwe.specs.Matrices.{signed}

@@ -1,4 +1,4 @@
-use Rattle.std.proofs.Common.{◌≡◌, ◌^◌, ◌<◌, ◌≢◌, length, get_or, pos, ◌+ℤ◌, ◌*ℤ◌, sym, ap, ◌∙◌, arith, get_or-set_other, get_or-set_same, w16, w64, SFits, to_z, of_z, rules, below_more}
+use Rattle.std.proofs.Common.{◌≡◌, ◌^◌, ◌<◌, ◌≢◌, length, get_or, pos, ◌+ℤ◌, ◌*ℤ◌, sym, ap, ◌∙◌, arith, get_or-set_other, get_or-set_same, w16, w64, SFits, to_z, of_z, below_more}
 use Rattle.std.proofs.lemmas.Int.{ints, to_z-of_z}
 use Rattle.lwe.proofs.Bounds.{sum_bound}
 use Rattle.lwe.proofs.products.add_scaled.Goals as goal

@@ -1,7 +1,6 @@
-use Rattle.std.proofs.Common.{◌≡◌, ℕ, ◌/◌, ◌%◌, get_or, ℤ, pos, ◌+ℤ◌, ap, ◌∙◌, div-add-mod', arith, w16, w64, SFits, rules}
+use Rattle.std.proofs.Common.{get_or, pos, ◌∙◌, div-add-mod', arith, w16, w64, SFits, rules}
 use Rattle.std.proofs.lemmas.Nat.{div_below, mod_below}
-use Rattle.std.proofs.lemmas.Int.{ints, to_z-of_z}
-use Rattle.consensus.specs.Arithmetic.{residue}
+use Rattle.std.proofs.lemmas.Int.{to_z-of_z}
 use Rattle.lwe.specs.Exchange.{Σ2}
 use Rattle.lwe.specs.Matrices.{plain, signed}
 use Rattle.lwe.proofs.Places.{filled_none, filled_more, filled_all}

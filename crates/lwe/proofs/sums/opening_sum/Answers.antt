@@ -1,4 +1,4 @@
-use Rattle.std.proofs.Common.{◌≡◌, ℕ, ◌/◌, ◌%◌, ℤ, ◌*ℤ◌, ap, ◌∙◌, arith, w64, SFits, rules}
+use Rattle.std.proofs.Common.{ℕ, ◌/◌, ◌%◌, ℤ, ◌*ℤ◌, ap, ◌∙◌, arith, w64, SFits, rules}
 use lib.IntN.{*ℤ_comm}
 use Rattle.std.proofs.lemmas.Nat.{div_below, mod_below}
 use Rattle.std.proofs.lemmas.Int.{to_z-of_z}

@@ -1,4 +1,4 @@
-use Rattle.std.proofs.Common.{◌≡◌, ℕ, ◌*◌, ◌^◌, ◌≤◌, List, map, length, take, drop, ℤ, pos, ap, ◌∙◌, arith, length-take}
+use Rattle.std.proofs.Common.{◌≡◌, ℕ, ◌*◌, ◌^◌, map, length, take, drop, ℤ, pos, ap, ◌∙◌, arith, length-take}
 use Rattle.noise.specs.Laws.{value_of, width_of}
 use Rattle.noise.specs.Replies.{number_of}
 use Rattle.lwe.specs.Matrices.{padded}

@@ -1,4 +1,4 @@
-use Rattle.std.proofs.Common.{◌≡◌, ℕ, ◌+◌, ◌-◌, ◌*◌, ◌<◌, ◌≤◌, true, List, map, length, get_or, take, drop, ℤ, pos, sym, ap, ◌∙◌, arith, length-take}
+use Rattle.std.proofs.Common.{◌≡◌, ℕ, ◌-◌, ◌*◌, ◌≤◌, List, length, take, drop, sym, ap, ◌∙◌, arith, length-take}
 use native.Mathlib.Nat.{sub-zero}
 use Rattle.std.proofs.lemmas.List.{length-map}
 use Rattle.consensus.specs.Consensus.{settle_all, digits_of, hints_of}
@@ -9,7 +9,7 @@ use Rattle.lwe.specs.Images.{public_matrix}
 use Rattle.lwe.specs.Matrices.{Matrix, by_rows, padded, plain, plus, signed, times, transposed}
 use Rattle.ends.specs.declared.answering.AnsweringPhase.TheVariants.{Keyed}
 use Rattle.ends.specs.declared.answering.AnsweringState.{AnsweringState}
-use Rattle.ends.specs.AnsweringStates.{drawn_X2, drawn_E2, drawn_Eσ, rule_draws, answered, sums, settled}
+use Rattle.ends.specs.AnsweringStates.{drawn_X2, drawn_E2, drawn_Eσ, answered, sums, settled}
 use Rattle.ends.proofs.Arrays.{front, by_rows_below, length_by_rows, signed_padded, imaged_is, image_granted}
 use Rattle.ends.proofs.Drawing.{below_last, last_count}
 use Rattle.ends.proofs.answering.AnsweringState.hear.Goals as goal

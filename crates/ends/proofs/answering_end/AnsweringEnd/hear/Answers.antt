@@ -1,22 +1,21 @@
-use Rattle.std.proofs.Common.{◌≡◌, ℕ, ◌+◌, ◌*◌, ◌≤◌, true, List, length, take, None, Ok, Err, sym, refl, ap, ◌∙◌, subst, arith, rules}
+use Rattle.std.proofs.Common.{◌≡◌, ℕ, ◌*◌, ◌≤◌, length, take, None, Ok, Err, sym, refl, ap, ◌∙◌, arith, rules}
 use Rattle.std.proofs.lemmas.Nat.{mul-le}
 use Rattle.std.proofs.lemmas.Result.{err_from_is_err_and}
 use Rattle.consensus.specs.Consensus.{hints_of}
 use Rattle.matrix.specs.Matrices.{Matrices}
 use Rattle.lwe.specs.Limits.{Dimensions, dimensions}
-use Rattle.lwe.specs.Matrices.{by_rows, padded}
+use Rattle.lwe.specs.Matrices.{by_rows}
 use Rattle.wire.specs.Headers.{message_length}
 use Rattle.wire.specs.Messages.{Fields, answer, decode, encode}
 use Rattle.wire.specs.Views.{list, offered}
 use Rattle.wire.specs.declared.kind.Kind.TheVariants.{Answer, Offer}
-use Rattle.ends.specs.declared.answering.AnsweringState.{AnsweringState}
 use Rattle.ends.specs.declared.fault.EndFault.TheVariants.{Source}
-use Rattle.ends.specs.AnsweringCalls.{hear_checks, hearing, answer_of}
+use Rattle.ends.specs.AnsweringCalls.{hear_checks, hearing}
 use Rattle.ends.specs.AnsweringStates.{answered, heard, settled}
 use Rattle.ends.specs.Calls.{written}
 use Rattle.ends.specs.Ends.{answering_setting}
 use Rattle.ends.specs.Settings.{extent}
-use Rattle.ends.proofs.AnsweringCalls.{hear_room, hear_count, hear_noise, hear_draws, hear_unknown, hear_granted, heard_entries, hints_count}
+use Rattle.ends.proofs.AnsweringCalls.{hear_count, hear_noise, hear_draws, hear_unknown, hear_granted, heard_entries, hints_count}
 use Rattle.ends.proofs.Arrays.{front, length_by_rows}
 use Rattle.ends.proofs.Checking.{no_fault, turned_known, turned_unknown}
 use Rattle.ends.proofs.SameEnds.{same_answering}

@@ -1,4 +1,4 @@
-use Rattle.std.proofs.Common.{◌≡◌, ◌+◌, ◌*◌, ap, ◌∙◌}
+use Rattle.std.proofs.Common.{◌+◌, ◌*◌}
 use Rattle.noise.specs.Replies.{number_of}
 use Rattle.ends.proofs.Limits.{width_fits, limit_is}
 use Rattle.ends.proofs.answering_end.AnsweringEnd.words_needed.Goals as goal

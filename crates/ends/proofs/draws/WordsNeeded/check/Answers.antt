@@ -1,7 +1,5 @@
-use Rattle.std.proofs.Common.{◌≡◌, ◌+◌, eqb, length, sym, ap, ◌∙◌, arith}
-use Rattle.std.proofs.lemmas.Bool.{cond-true, eq-eqb}
-use Rattle.ends.specs.Draws.{draw_fault, first_over}
-use Rattle.ends.specs.Refusals.{unless}
+use Rattle.std.proofs.Common.{◌+◌, length, ◌∙◌, arith}
+use Rattle.std.proofs.lemmas.Bool.{eq-eqb}
 use Rattle.ends.proofs.Drawing.{over_here, over_on, over_end}
 use Rattle.ends.proofs.draws.WordsNeeded.check.Goals as goal
 

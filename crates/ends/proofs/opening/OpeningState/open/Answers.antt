@@ -1,4 +1,4 @@
-use Rattle.std.proofs.Common.{◌≡◌, ℕ, ◌*◌, ◌^◌, ◌≤◌, List, map, length, take, drop, replicate, ℤ, pos, sym, ap, ◌∙◌, arith, length-drop, length-take}
+use Rattle.std.proofs.Common.{◌≡◌, ℕ, ◌*◌, ◌^◌, map, length, take, drop, replicate, ℤ, pos, sym, ap, ◌∙◌, arith, length-drop, length-take}
 use Rattle.std.proofs.lemmas.List.{length-map}
 use Rattle.noise.specs.Laws.{value_of, width_of}
 use Rattle.noise.specs.Replies.{number_of}
@@ -8,7 +8,7 @@ use Rattle.lwe.specs.Matrices.{Matrix, by_rows, padded, signed}
 use Rattle.ends.specs.declared.opening.OpeningPhase.TheVariants.{Waiting}
 use Rattle.ends.specs.OpeningStates.{drawn_X1, drawn_E1, offered}
 use Rattle.ends.proofs.Arrays.{signed_padded, imaged_is}
-use Rattle.ends.proofs.Drawing.{Below, below_take, below_drop}
+use Rattle.ends.proofs.Drawing.{below_take, below_drop}
 use Rattle.ends.proofs.opening.OpeningState.open.Goals as goal
 
 pub sample-requires : goal.sample-requires

@@ -1,9 +1,7 @@
-use Rattle.std.proofs.Common.{◌≡◌, not, Some, None, sym, refl, ap, ◌∙◌}
-use Rattle.std.proofs.lemmas.Result.{err_from_is_err_and, MatchResult-at_err}
+use Rattle.std.proofs.Common.{◌≡◌, not, sym, ap, ◌∙◌}
+use Rattle.std.proofs.lemmas.Result.{err_from_is_err_and}
 use Rattle.lwe.specs.Limits.{dimensions}
-use Rattle.wire.specs.Messages.{InRange, number_fault}
 use Rattle.wire.specs.Views.{answered}
-use Rattle.ends.specs.declared.fault.EndFault.TheVariants.{Message}
 use Rattle.ends.specs.Ends.{opening_setting}
 use Rattle.ends.specs.Calls.{of_message}
 use Rattle.ends.specs.OpeningCalls.{holds_key}

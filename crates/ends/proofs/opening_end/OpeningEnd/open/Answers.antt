@@ -1,4 +1,4 @@
-use Rattle.std.proofs.Common.{◌≡◌, ℕ, ◌+◌, ◌*◌, ◌≤◌, true, List, length, take, None, Ok, Err, sym, refl, ap, ◌∙◌, arith, rules}
+use Rattle.std.proofs.Common.{◌≡◌, ℕ, ◌+◌, ◌*◌, ◌≤◌, length, take, None, Ok, Err, sym, refl, ap, ◌∙◌, arith, rules}
 use Rattle.std.proofs.lemmas.Nat.{mul-le}
 use Rattle.std.proofs.lemmas.Result.{err_from_is_err_and}
 use Rattle.matrix.specs.Matrices.{Matrices}
@@ -8,7 +8,6 @@ use Rattle.wire.specs.Headers.{message_length}
 use Rattle.wire.specs.Messages.{offer, encode}
 use Rattle.wire.specs.declared.kind.Kind.TheVariants.{Offer}
 use Rattle.ends.specs.declared.fault.EndFault.TheVariants.{Source}
-use Rattle.ends.specs.declared.opening.OpeningState.{OpeningState}
 use Rattle.ends.specs.Ends.{opening_setting}
 use Rattle.ends.specs.Calls.{written}
 use Rattle.ends.specs.OpeningCalls.{open_checks, opening}
@@ -16,7 +15,7 @@ use Rattle.ends.specs.OpeningStates.{offered, opened}
 use Rattle.ends.specs.Settings.{extent}
 use Rattle.ends.proofs.Arrays.{front, length_by_rows}
 use Rattle.ends.proofs.Checking.{no_fault, the_value, turned_known, turned_unknown}
-use Rattle.ends.proofs.OpeningCalls.{open_room, open_count, open_below, open_unknown, open_granted}
+use Rattle.ends.proofs.OpeningCalls.{open_count, open_below, open_unknown, open_granted}
 use Rattle.ends.proofs.SameEnds.{same_opening}
 use Rattle.ends.proofs.Writing.{write_size, write_buffer}
 use Rattle.ends.proofs.opening_end.OpeningEnd.open.Given as given

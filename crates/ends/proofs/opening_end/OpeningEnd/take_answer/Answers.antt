@@ -1,15 +1,13 @@
-use Rattle.std.proofs.Common.{◌≡◌, ℕ, ◌-◌, ◌*◌, ◌≤◌, List, length, take, Ok, sym, refl, ap, ◌∙◌, arith}
+use Rattle.std.proofs.Common.{◌≡◌, ℕ, ◌-◌, ◌*◌, ◌≤◌, List, length, take, Ok, refl, ap, ◌∙◌, arith}
 use native.Mathlib.Nat.{sub-zero}
 use Rattle.std.proofs.lemmas.Nat.{mul-le}
 use Rattle.lwe.specs.Matrices.{padded}
 use Rattle.wire.specs.Messages.{Fields, decode}
 use Rattle.wire.specs.Views.{answered, list}
 use Rattle.wire.specs.declared.kind.Kind.TheVariants.{Answer}
-use Rattle.ends.specs.declared.opening.OpeningState.{OpeningState}
 use Rattle.ends.specs.Ends.{opening_setting}
-use Rattle.ends.specs.OpeningCalls.{take_fault, taking}
+use Rattle.ends.specs.OpeningCalls.{taking}
 use Rattle.ends.specs.OpeningStates.{keyed}
-use Rattle.ends.specs.Refusals.{unless}
 use Rattle.ends.specs.Settings.{extent}
 use Rattle.ends.proofs.Arrays.{front}
 use Rattle.ends.proofs.OpeningCalls.{take_number, keyed_entries}

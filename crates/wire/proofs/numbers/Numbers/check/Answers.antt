@@ -1,4 +1,4 @@
-use Rattle.std.proofs.Common.{◌≡◌, ◌+◌, drop, sym, ap, ◌∙◌, arith}
+use Rattle.std.proofs.Common.{◌≡◌, ◌+◌, drop, ap, ◌∙◌, arith}
 use Rattle.wire.specs.Messages.{over}
 use Rattle.wire.specs.Views.{list}
 use Rattle.wire.proofs.Checks.{over_here, over_on, over_end, over_below}

@@ -1,4 +1,4 @@
-use Rattle.std.proofs.Common.{◌+◌, ◌*◌, ◌<◌, length, sym, ◌∙◌, arith}
+use Rattle.std.proofs.Common.{sym, ◌∙◌, arith}
 use Rattle.wire.proofs.Laws.{length_numbers, get_or_numbers}
 use Rattle.wire.proofs.numbers.Numbers.get.Goals as goal
 

@@ -1,4 +1,4 @@
-use Rattle.std.proofs.Common.{◌≡◌, length, replicate}
+use Rattle.std.proofs.Common.{◌≡◌, replicate}
 use lib.Seq.{paste}
 use Rattle.wire.specs.Views.{list}
 use Rattle.wire.proofs.numbers.Numbers.to_array.Given as goal
