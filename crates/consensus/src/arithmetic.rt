@@ -12,7 +12,7 @@ pub fn gcd(a: u32, b: u32) -> u32
 
 // `a / b` to the nearest whole number, a half upwards.
 pub(crate) fn round(a: u32, b: u32) -> u32
-    requires { (a < 2 ^ 30) × ((0 < b) × (b < 2 ^ 30)) }
+    requires { (a < 2 ^ 30) × (0 < b) × (b < 2 ^ 30) }
     ensures { result ≡ round a b }
 {
     (2 * a + b) / (2 * b)
@@ -28,7 +28,7 @@ pub(crate) fn difference_mod(up: u32, down: u32, t: u32) -> u32
 
 // `(up - down) / by`, floored, mod `t`.
 pub(crate) fn floor_mod(up: u64, down: u64, by: u64, t: u32) -> u32
-    requires small { (up < 2 ^ 62) × ((down < 2 ^ 62) × (by < 2 ^ 62)) }
+    requires small { (up < 2 ^ 62) × (down < 2 ^ 62) × (by < 2 ^ 62) }
     requires nonzero { (0 < by) × (0 < t) }
     ensures { result ≡ residue (floor (pos up -ℤ pos down) by) t }
 {

@@ -15,7 +15,7 @@ pub(crate) fn settle_places<R: Rule>(
     digits: &mut [u16],
     hints: &mut [u16],
 )
-    requires counts { (length draws.now ≤ length sums.now) × ((length draws.now ≤ length digits.old) × (length draws.now ≤ length hints.old)) }
+    requires counts { (length draws.now ≤ length sums.now) × (length draws.now ≤ length digits.old) × (length draws.now ≤ length hints.old) }
     requires sums { (k : ℕ) → k < length draws.now → slice_index sums.now k < (R.Rule.meaning rule.now).modulus }
     requires draws { (k : ℕ) → k < length draws.now → slice_index draws.now k < (R.Rule.meaning rule.now).draws }
     ensures digits { digits.new ≡ padded 0 (length digits.old) (digits_of (settle_all (R.Rule.meaning rule.now) sums.now draws.now)) }

@@ -1,6 +1,6 @@
 -- SHAKE128 of FIPS 202 on bytes: the sponge over the permutation, with a rate of 1344 bits and a capacity of 256.
 -- Bit i of a string is bit i % 8 of its byte i / 8, so a lane is eight bytes, the lowest first. Assumes nothing.
-use Rattle.std.specs.Prelude.{ℕ, zero, suc, ◌+◌, ◌-◌, ◌*◌, ◌/◌, ◌%◌, cond, List, [], ◌∷◌, ◌++◌, map, length, take, drop, replicate, nat_lt, slice_index, slice_index_or}
+use Rattle.std.specs.Prelude.{ℕ, zero, suc, ◌+◌, ◌-◌, ◌*◌, ◌/◌, ◌%◌, cond, List, [], ◌∷◌, ◌++◌, map, length, take, drop, replicate, nat_lt, slice_index}
 use Rattle.std.specs.List.{range_with_len, flat_map}
 use Rattle.keccak.specs.Permutation.{◌⊕◌, permute}
 
@@ -41,7 +41,7 @@ block_lane b k = from_bytes (take 8 (drop (8 * k) b))
 
 -- a block is XORed into the first 21 lanes, and the lanes of the capacity stay
 unfoldable pub xor_block : List ℕ → List ℕ → List ℕ
-xor_block s b = map (λ k. cond (nat_lt k 21) (slice_index_or s k 0 ⊕ block_lane b k) (slice_index s k)) (range_with_len 0 25)
+xor_block s b = map (λ k. cond (nat_lt k 21) (slice_index s k ⊕ block_lane b k) (slice_index s k)) (range_with_len 0 25)
 
 -- the state after blocks 0 to n - 1 of a padded message
 unfoldable pub absorb_blocks : List ℕ → (n : ℕ) → List ℕ

@@ -30,7 +30,7 @@ pub(crate) fn modulo(z: i64, q: u32) -> u16
 
 // `z` with its noise, mod `q`.
 pub(crate) fn noisy(z: i64, noise: i16, q: u32) -> u16
-    requires { (0 < q) × ((q ≤ 32768) × (unsigned_abs z ≤ 2 ^ 62)) }
+    requires { (0 < q) × (q ≤ 32768) × (unsigned_abs z ≤ 2 ^ 62) }
     ensures { result ≡ residue (z +ℤ noise) q }
 {
     modulo(z + noise as i64, q)

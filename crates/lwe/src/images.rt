@@ -32,7 +32,7 @@ fn read_row<S: MatrixSource>(
 
 // Column `c` of `x`, which has `l` columns.
 fn take_column(x: &[i16; 8192], l: usize, c: usize, column: &mut [i16])
-    requires { (l ≤ 8) × ((c < l) × (length column.old ≤ 1024)) }
+    requires { (l ≤ 8) × (c < l) × (length column.old ≤ 1024) }
     ensures { (r : ℕ) → r < length column.old → slice_index_or column.new r (pos 0) ≡ signed l x.now r c }
 {
     for r in 0..column.len() {
@@ -94,7 +94,7 @@ pub fn opening_image<S: MatrixSource>(
 
 // Adds to the sums, which lie column by column, `row` times each number of `x`.
 fn add_row(sums: &mut [i64], row: &[u16], x: &[i16])
-    requires sizes { (length row.now ≤ 1024) × ((length x.now ≤ 8) × (length sums.old ≡ 8192)) }
+    requires sizes { (length row.now ≤ 1024) × (length x.now ≤ 8) × (length sums.old ≡ 8192) }
     requires small { (k : ℕ) → unsigned_abs (slice_index_or sums.old k (pos 0)) ≤ 2 ^ 61 }
     ensures grows { (k : ℕ) → unsigned_abs (slice_index_or sums.new k (pos 0)) ≤ unsigned_abs (slice_index_or sums.old k (pos 0)) + 2 ^ 31 }
     ensures value { (c : ℕ) → c < length x.now → (j : ℕ) → j < length row.now → signed (length row.now) sums.new c j ≡ signed (length row.now) sums.old c j +ℤ pos (slice_index row.now j) *ℤ slice_index_or x.now c (pos 0) }
@@ -108,7 +108,7 @@ fn add_row(sums: &mut [i64], row: &[u16], x: &[i16])
 // The sums, which lie column by column, with noise, mod `q`, row by row.
 fn noisy_image(q: u32, n: usize, l: usize, sums: &[i64; 8192], noise: &[i16; 8192]) -> [u16; 8192]
     requires modulus { (0 < q) × (q ≤ 32768) }
-    requires places { (n ≤ 1024) × ((1 ≤ l) × (l ≤ 8)) }
+    requires places { (n ≤ 1024) × (1 ≤ l) × (l ≤ 8) }
     requires small { (k : ℕ) → unsigned_abs (slice_index_or sums.now k (pos 0)) ≤ 2 ^ 61 }
     ensures { result ≡ padded 0 8192 (by_rows n l (reduced q (plus (transposed (signed n sums.now)) (signed l noise.now)))) }
 {

@@ -38,7 +38,7 @@ fn entry(bytes: &[u8], bits: u32, j: usize) -> u16
 
 // The first n entries of a row's bytes.
 fn entries(n: usize, bits: u32, bytes: &[u8]) -> [u16; 1024]
-    requires { (n ≤ 1024) × ((2 * n ≤ length bytes.now) × (bits ≤ 15)) }
+    requires { (n ≤ 1024) × (2 * n ≤ length bytes.now) × (bits ≤ 15) }
     ensures { take n result ≡ map (entry_at (2 ^ bits) bytes.now) (range_with_len 0 n) }
 {
     let mut row = [0; 1024];

@@ -11,7 +11,7 @@ pub trait MatrixSource {
     // The row that it is turned to, if any.
     ghost turned: { Self → Option Row };
 
-    // The law of a source. It is a member, since a trait with a law cannot be met by a type with a lifetime.
+    // What every source keeps.
     ghost sound: { (s : Self) → Sound (meaning s) };
 
     // n: the matrices have n rows and n columns.

@@ -1,7 +1,7 @@
 // The request `row SEED I N Q`.
 ghost use Rattle.std.specs.Prelude.{◌≡◌, true, is_some, IfOk, vec_items, string_bytes};
 ghost use Rattle.std.specs.Option.{option_map};
-ghost use Rattle.std.specs.Result as results;
+ghost use Rattle.std.specs.Result.{result_map_both};
 ghost use Rattle.text.specs.Words.{left};
 ghost use Rattle.vector_line.specs.Rows.{turned_entries, row_reply, spaced_text, row_text, row_line};
 
@@ -34,7 +34,7 @@ fn row_entries(
     n: usize,
     q: u32,
 ) -> Result<Result<Vec<u16>, SourceFault>, AllocError>
-    ensures { IfOk result (λ a. results.result_map_both vec_items (λ fault. fault) a ≡ row_reply seed.now row n q) }
+    ensures { IfOk result (λ a. result_map_both vec_items (λ fault. fault) a ≡ row_reply seed.now row n q) }
 {
     let mut source = match ExpandingSource::new(n, q) {
         Ok(source) => source,
@@ -63,7 +63,7 @@ fn spaced(heap: Global, numbers: &[u16]) -> Result<String, AllocError>
 
 // The line of a row's entries, or of a refusal.
 fn row_text(heap: Global, reply: Result<Vec<u16>, SourceFault>) -> Result<String, AllocError>
-    ensures { IfOk result (λ text. string_bytes text ≡ row_text (results.result_map_both vec_items (λ fault. fault) reply)) }
+    ensures { IfOk result (λ text. string_bytes text ≡ row_text (result_map_both vec_items (λ fault. fault) reply)) }
 {
     match reply {
         Ok(entries) => spaced(heap, entries.as_slice()),

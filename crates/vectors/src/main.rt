@@ -1,12 +1,12 @@
 // Reads requests from standard input, one to a line, and prints a line for each.
 #![tactic(auto)]
 
-use anyhow::anyhow;
 use std::io::Read;
+use std::process::ExitCode;
 use vector_line::line::{answer, first_line};
 use vector_line::reply::Answer;
 
-fn main(rt: HostRuntime) -> anyhow::Result<()> {
+fn main(rt: HostRuntime) -> anyhow::Result<ExitCode> {
     let mut input = Vec::new(rt.alloc());
     rt.stdin().read_to_end(&mut input)?;
     let mut rest = input.as_slice();
@@ -22,9 +22,9 @@ fn main(rt: HostRuntime) -> anyhow::Result<()> {
             Answer::Line(text) => println!(rt; "{text}")?,
             Answer::NoRequest => {
                 eprintln!(rt; "line {number} is no request")?;
-                return Err(anyhow!("no request"));
+                return Ok(ExitCode::FAILURE);
             }
         }
     }
-    Ok(())
+    Ok(ExitCode::SUCCESS)
 }
