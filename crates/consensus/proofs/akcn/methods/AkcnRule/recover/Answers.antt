@@ -9,7 +9,7 @@ floor_mod-requires c =
     let r = c.args.self.now in
     let up = akcn_up r.q r.m r.g (allowed r) c.args.hint c.if-hint-self.false in
     let down = akcn_down r.q r.m r.g (allowed r) c.args.sum c.if-sum-self.false in
-    record { small = (up, (down, by_small r.q r.m r.g (allowed r))); nonzero = (by_some r.q r.m r.g (allowed r), omega arith) }
+    record { small = (up, down, by_small r.q r.m r.g (allowed r)); nonzero = (by_some r.q r.m r.g (allowed r), omega arith) }
 
 pub returns : goal.returns
 returns c = search (rules, akcn_recover_is)

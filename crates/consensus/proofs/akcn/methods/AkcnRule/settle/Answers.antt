@@ -6,7 +6,7 @@ use Rattle.consensus.proofs.akcn.methods.AkcnRule.settle.Goals as goal
 pub round-shift-requires : goal.round-shift-requires
 round-shift-requires c =
     let r = c.args.self.now in
-    (digit_small r.q r.m r.g (allowed r) c.args.draw c.if-draw-self.false, (omega arith, omega arith))
+    (digit_small r.q r.m r.g (allowed r) c.args.draw c.if-draw-self.false, omega arith, omega arith)
 
 placed : (c : goal.After-round-shift) → c.round-shift.result ≤ c.args.self.now.q
 placed c =
@@ -25,4 +25,4 @@ pub overflow_mul-self-2 : goal.overflow_mul-self-2
 overflow_mul-self-2 c = omega (arith, hinted c)
 
 pub round-requires : goal.round-requires
-round-requires c = (hinted c, (omega arith, omega arith))
+round-requires c = (hinted c, omega arith, omega arith)
