@@ -41,7 +41,7 @@ settle_places-requires g c =
     let draws = below_last (g.R.Rule.meaning c.args.rule.now).draws (s.n * s.lb) (s.la * s.lb) words c.requires.count c.requires.draws in
     rw (is, c.rule_draws-draws.ensures)
     (record {
-      counts = (omega arith, (omega arith, omega arith));
+      counts = (omega arith, omega arith, omega arith);
       sums = λ k h. rw (sym c.requires.modulus) (by_rows_below s.q s.la s.lb (plus (times s.n (transposed Y) X) E) (omega arith) k (omega arith));
       draws = draws;
     })
