@@ -25,12 +25,12 @@ module _ (q m g : ℕ) (allowed : Allowed q m g) where
   pub okcn_up : (sum : ℕ) → sum < q → 2 * g * m * sum + g * q < 2 ^ 62
   okcn_up sum h = omega (arith, digits_hints_sums g sum (omega arith) (omega arith), hints_sums g q (omega arith) (omega arith))
 
-  pub okcn_down : (hint : ℕ) → hint < g → (2 * hint + 1) * q < 2 ^ 62
+  pub okcn_down : (hint : ℕ) → hint ≤ g → (2 * hint + 1) * q < 2 ^ 62
   okcn_down hint h = omega (arith, hints_sums hint q (omega arith) (omega arith))
 
   -- ---- the asymmetric rule
 
-  pub akcn_up : (hint : ℕ) → hint < g → 2 * m * hint * q + g * q < 2 ^ 62
+  pub akcn_up : (hint : ℕ) → hint ≤ g → 2 * m * hint * q + g * q < 2 ^ 62
   akcn_up hint h = omega (arith, digits_hints_sums hint q (omega arith) (omega arith), hints_sums g q (omega arith) (omega arith))
 
   pub akcn_down : (sum : ℕ) → sum < q → 2 * m * g * sum < 2 ^ 62

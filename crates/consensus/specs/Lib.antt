@@ -7,14 +7,16 @@ pub mod Replies
 pub mod Meanings
 pub mod Examples
 pub mod Carried
-pub mod AkcnValues
-pub mod AkcnAgreement
+
+-- the proofs of the rules' laws, which an `impl` can cite from here alone
 pub mod Residues
-pub mod AkcnEvenness
-pub mod Counted
-pub mod Counting
-pub mod OkcnValues
-pub mod OkcnAgreement
-pub mod OkcnParts
 pub mod Divisors
+pub mod Counting
+pub mod Counted
+pub mod OkcnParts
+pub mod OkcnAgreement
 pub mod OkcnEvenness
+pub mod OkcnValues
+pub mod AkcnAgreement
+pub mod AkcnEvenness
+pub mod AkcnValues

@@ -6,19 +6,19 @@ use Rattle.std.specs.Prelude.{◌≡◌, ℕ, ◌<◌, ℤ, pos, ◌-ℤ◌, ◌
 use Rattle.consensus.specs.Arithmetic.{residue, around, apart}
 use Rattle.lwe.specs.Matrices.{Matrix, Residues, whole, sum, transposed, times, plus, reduced}
 
--- Y1 = A-as-X1 + E1 mod q
+-- Y1 = A·X1 + E1 mod q
 abbrev pub Y1 : (q n : ℕ) (A X1 E1 : Matrix) → Residues
 Y1 q n A X1 E1 = reduced q (plus (times n A X1) E1)
 
--- Y2 = Aᵀ-as-X2 + E2 mod q
+-- Y2 = Aᵀ·X2 + E2 mod q
 abbrev pub Y2 : (q n : ℕ) (A X2 E2 : Matrix) → Residues
 Y2 q n A X2 E2 = reduced q (plus (times n (transposed A) X2) E2)
 
--- Σ2 = Y1ᵀ-as-X2 + Eσ mod q, of the Y1 that the answering end received
+-- Σ2 = Y1ᵀ·X2 + Eσ mod q, of the Y1 that the answering end received
 abbrev pub Σ2 : (q n : ℕ) (received X2 Eσ : Matrix) → Residues
 Σ2 q n received X2 Eσ = reduced q (plus (times n (transposed received) X2) Eσ)
 
--- Σ1 = X1ᵀ-as-Y2 mod q, of the Y2 that the opening end received
+-- Σ1 = X1ᵀ·Y2 mod q, of the Y2 that the opening end received
 abbrev pub Σ1 : (q n : ℕ) (X1 received : Matrix) → Residues
 Σ1 q n X1 received = reduced q (times n (transposed X1) received)
 

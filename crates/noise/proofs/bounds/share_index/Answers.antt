@@ -33,8 +33,7 @@ module _ (law word index i : ℕ) (bounds : List ℕ) (known : law ≤ 5) (are :
 
 pub overflow_add-index : goal.overflow_add-index
 overflow_add-index c =
-    small c.args.word c.loop-bound.index c.loop-bound.bound-index c.bounds-bounds.result
-    (leb (get_or c.bounds-bounds.result c.loop-bound.bound-index 0) c.args.word) c.loop-bound-test.true c.loop-bound.invariant
+    small c.args.word c.loop-bound.index c.loop-bound.bound-index c.bounds-bounds.result _ c.loop-bound-test.true c.loop-bound.invariant
 
 pub loop-bound-preserved : goal.loop-bound-preserved
 loop-bound-preserved c =
