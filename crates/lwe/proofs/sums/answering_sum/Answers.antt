@@ -23,7 +23,7 @@ loop-k-preserved c =
     let s = c.args.sizes.now in
     let k = c.loop-k.k in
     let wide : SFits w64 c.column_product-total.result = search rules in
-    let narrow : SFits w16 (get_or c.args.noise.now k (pos 0)) = record { sfits = c.column_product-total.type_inv.noise k } in
+    let narrow : SFits w16 (get_or c.args.noise.now k (pos 0)) = search rules in
     let value = simp to_z-of_z at c.noisy.ensures in
     filled_more _ c.loop-k.sums 64 k c.noisy.result (omega arith)
     (value ∙ rw (div-add-mod' k s.lb, c.column_product-total.ensures.value)) c.loop-k.invariant
