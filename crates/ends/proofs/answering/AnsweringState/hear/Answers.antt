@@ -23,7 +23,9 @@ unwrap-self-requires g c =
     let s = c.args.sizes.now in
     let m = g.S.MatrixSource.meaning c.args.source.now in
     let seed = c.args.seed.now in
-    rw c.answering_image.ensures.answer (image_granted m seed s.n s.lb _ c.requires.side c.requires.known)
+    let d = c.draw.new.self in
+    rw c.answering_image.ensures.answer
+    (image_granted m seed s.n s.lb (Y2 s.q s.n (public_matrix m seed) (signed s.lb d.secret) (signed s.lb d.noise)) c.requires.side c.requires.known)
 
 pub settle_places-requires : goal.settle_places-requires
 settle_places-requires g c =
