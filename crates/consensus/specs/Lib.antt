@@ -7,7 +7,6 @@ pub mod Replies
 pub mod Meanings
 pub mod Examples
 pub mod Carried
-
 -- the proofs of the rules' laws, which an `impl` can cite from here alone
 pub mod Residues
 pub mod Divisors
