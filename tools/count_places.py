@@ -35,8 +35,8 @@ def long_lists():
             yield f, i, f'{name}: {count} parameters'
 
 
-def same_bodies():
-    """Functions with more than one statement's worth of text whose bodies are the same but for numbers and types."""
+def of_one_name():
+    """Functions that share their name with another: what twins there are, a reader has to see."""
     seen = collections.defaultdict(list)
     for f, i, name, parameters, rest in functions():
         body = re.search(r'\n\s*\{\n(.*?)\n\s*\}\n', rest, re.S)
@@ -47,6 +47,7 @@ def same_bodies():
 
 
 def repeated_facts():
+    """Facts that stand in three `requires` of one line or more."""
     count = collections.defaultdict(list)
     for f in FILES:
         for i, l in enumerate(open(f, encoding='utf-8'), 1):
@@ -62,7 +63,7 @@ ROWS = [
     ('1', 'own enums', lines(r'^(pub(\(crate\))? )?enum ')),
     ('1', 'a None handed on by hand', lines(r'return (Ok\()?None')),
     ('1', 'numbers for kinds', lines(r'\b(kind|rule|law): u(8|16)|fn (new|law_of)\(number: u8')),
-    ('2', 'functions of one name', same_bodies()),
+    ('2', 'functions of one name', of_one_name()),
     ('3', 'loops over a range', lines(r'^\s*for .* in .*\.\.')),
     ('3', 'while and loop', lines(r'^\s*(while|loop)\b')),
     ('4', 'impls of printing, conversion and dropping', lines(r'^impl.*\b(Display|From<.*>|TryFrom<.*>|Drop|PartialEq|Ord|Clone) for')),

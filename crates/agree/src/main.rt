@@ -3,16 +3,17 @@
 #![tactic(auto)]
 
 use consensus::akcn::Akcn;
+use consensus::kind::RuleKind;
 use consensus::okcn::Okcn;
-use report::{Name, Report};
+use report::Report;
 
 mod report;
 
 fn main(rt: HostRuntime) -> anyhow::Result<()> {
     let okcn = Okcn::new(16, 4, 8)?;
     let akcn = Akcn::new(11, 2, 8)?;
-    println!(rt; "{}", Report::of(Name::Okcn, &okcn, 7, 0, 8)?)?;
-    println!(rt; "{}", Report::of(Name::Akcn, &akcn, 5, 1, 6)?)?;
-    println!(rt; "{}", Report::of(Name::Okcn, &okcn, 7, 0, 10)?)?;
+    println!(rt; "{}", Report::of(RuleKind::Okcn, &okcn, 7, 0, 8)?)?;
+    println!(rt; "{}", Report::of(RuleKind::Akcn, &akcn, 5, 1, 6)?)?;
+    println!(rt; "{}", Report::of(RuleKind::Okcn, &okcn, 7, 0, 10)?)?;
     Ok(())
 }

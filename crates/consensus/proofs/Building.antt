@@ -1,12 +1,11 @@
 -- Which numbers make a rule, and which distance it then has. Assumes nothing.
-use Rattle.std.proofs.Common.{◌≡◌, ℕ, ◌*◌, ◌<◌, Bool, true, false, ltb, Ok, Err, Decides, Result, refl, arith}
-use Rattle.std.proofs.lemmas.Bool.Decides.{nat_tests, Decides-ltb, not_from_Decides}
-use Rattle.consensus.specs.Consensus.{Consensus}
-use Rattle.consensus.specs.Replies.{allowed, check, built, Built}
+use Rattle.std.proofs.Common.{◌≡◌, ℕ, ◌*◌, Bool, true, false, ltb, Ok, Err, Decides, Result, refl, arith}
+use Rattle.std.proofs.lemmas.Bool.Decides.{nat_tests, Decides-ltb}
+use Rattle.consensus.specs.Replies.{allowed, check, built}
 use Rattle.consensus.specs.Rules.{Allowed, Largest, largest_distance}
 use Rattle.consensus.specs.declared.fault.RuleFault.{RuleFault}
 use Rattle.consensus.specs.declared.fault.RuleFault.TheVariants.{Limits, Distance}
-use Rattle.consensus.proofs.Distances.{none_meets, some_cell, largest_distance_is}
+use Rattle.consensus.proofs.Distances.{some_cell, largest_distance_is}
 
 pub allowed_decides : (q m g : ℕ) → Decides (allowed q m g) (Allowed q m g)
 allowed_decides q m g = (λ e. record { modulus = grind (arith, nat_tests); digits = grind (arith, nat_tests); hints = grind (arith, nat_tests); within = grind (arith, nat_tests) }, λ limits. grind (arith, nat_tests))
@@ -33,25 +32,3 @@ granted {X} q m g bound x y e = go (allowed q m g) refl (ltb (m * g) bound) refl
     go true p true r e = (granted_by q m g bound p r, cc)
     go true p false r e = absurd (never_granted e)
     go false p t r e = absurd (never_granted e)
-
--- where one thing is built, another from the same numbers is too
-pub built_alike : {X Y : Type 0} (q m g bound : ℕ) (x y : X) (z : Y) → Ok y ≡ built q m g bound x → Ok z ≡ built q m g bound z
-built_alike q m g bound x y z e = go (allowed q m g) refl (ltb (m * g) bound) refl e
-  where
-    go : (s : Bool) → allowed q m g ≡ s → (t : Bool) → ltb (m * g) bound ≡ t
-        → Ok y ≡ check s Limits (check t Distance (Ok x)) → Ok z ≡ check s Limits (check t Distance (Ok z))
-    go true p true r e = refl
-    go true p false r e = absurd (never_granted e)
-    go false p t r e = absurd (never_granted e)
-
--- building comes to what it should, for a rule c with the largest distance
-pub built_is : (c : Consensus) (q m g bound : ℕ) → c.distance ≡ largest_distance m g bound → Built q m g bound (built q m g bound c)
-built_is c q m g bound far = go (allowed q m g) refl (ltb (m * g) bound) refl
-  where
-    go : (s : Bool) → allowed q m g ≡ s → (t : Bool) → ltb (m * g) bound ≡ t
-        → Built q m g bound (check s Limits (check t Distance (Ok c)))
-    go true p true r = let g = granted_by q m g bound p r in (g.allowed, rw far g.largest)
-    go true p false r =
-        let none : m * g < bound → ⊥ = not_from_Decides (ltb (m * g) bound) (Decides-ltb (m * g) bound) r in
-        ((allowed_decides q m g).0 p, none_meets m g bound (omega arith))
-    go false p t r = not_from_Decides (allowed q m g) (allowed_decides q m g) p

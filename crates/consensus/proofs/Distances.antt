@@ -2,7 +2,7 @@
 use Rattle.std.proofs.Common.{ℕ, ◌+◌, ◌-◌, ◌*◌, ◌/◌, ◌<◌, ◌≤◌, mul-le-mul_right, mul-le-mul_left, arith}
 use native.Mathlib.Nat.{div-add-mod}
 use Rattle.std.proofs.lemmas.Nat.{le-div}
-use Rattle.consensus.specs.Rules.{Allowed, Largest, NoneMeets, largest_distance}
+use Rattle.consensus.specs.Rules.{Allowed, Largest, largest_distance}
 
 -- the same over one number a, which is m * g
 module _ (a bound : ℕ) (some : 0 < a) where
@@ -22,10 +22,6 @@ module _ (a bound : ℕ) (some : 0 < a) where
   largest_most e near =
       let t : 2 * e + 1 ≤ (bound - 1) / a = le-div (2 * e + 1) (bound - 1) a some (omega arith) in
       omega arith
-
--- there is none where not even 0 meets the bound
-pub none_meets : (m g bound : ℕ) → bound ≤ m * g → NoneMeets m g bound
-none_meets m g bound h d meets = omega arith
 
 pub largest_distance_is : (m g bound : ℕ) → 0 < m * g → m * g < bound → Largest m g bound (largest_distance m g bound)
 unfolding largest

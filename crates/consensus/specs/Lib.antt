@@ -3,7 +3,9 @@ pub mod Consensus
 pub mod Evenness
 pub mod Laws
 pub mod Rules
+pub mod Numbers
 pub mod Replies
+pub mod Kinds
 pub mod Meanings
 pub mod Examples
 pub mod Carried

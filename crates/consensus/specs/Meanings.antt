@@ -5,7 +5,7 @@ use Rattle.consensus.specs.declared.okcn.Okcn.{Okcn}
 use Rattle.consensus.specs.declared.akcn.Akcn.{Akcn}
 
 abbrev pub okcn_of : Okcn → Consensus
-okcn_of r = okcn r.q r.m r.g
+okcn_of r = okcn r.numbers.modulus r.numbers.digits r.numbers.hints
 
 abbrev pub akcn_of : Akcn → Consensus
-akcn_of r = akcn r.q r.m r.g
+akcn_of r = akcn r.numbers.modulus r.numbers.digits r.numbers.hints

@@ -23,7 +23,8 @@ pub(crate) fn difference_mod(up: u32, down: u32, t: u32) -> u32
     requires { 0 < t }
     ensures { result ≡ residue (pos up -ℤ pos down) t }
 {
-    (up as i64 - down as i64).rem_euclid(t as i64) as u32
+    // Proved to fit: `try_from` would make an error that never comes.
+    (i64::from(up) - i64::from(down)).rem_euclid(i64::from(t)) as u32
 }
 
 // `(up - down) / by`, floored, mod `t`.
@@ -32,9 +33,10 @@ pub(crate) fn floor_mod(up: u64, down: u64, by: u64, t: u32) -> u32
     requires nonzero { (0 < by) × (0 < t) }
     ensures { result ≡ residue (floor (pos up -ℤ pos down) by) t }
 {
+    // All four casts are proved to fit: `try_from` would make errors that never come.
     (up as i64 - down as i64)
         .div_euclid(by as i64)
-        .rem_euclid(t as i64) as u32
+        .rem_euclid(i64::from(t)) as u32
 }
 
 // How far `a` and `b` lie apart around `q`.

@@ -25,7 +25,7 @@ pub fn carry<R: Rule>(rule: &R, sum: u16, draw: u16, second: u16) -> Result<Carr
 {
     let (digit, hint) = rule.settle(sum, draw)?;
     let recovered = rule.recover(second, hint)?;
-    let apart = apart(rule.modulus(), sum as u32, second as u32);
+    let apart = apart(rule.modulus(), u32::from(sum), u32::from(second));
     Ok(Carried {
         digit,
         hint,

@@ -1,7 +1,8 @@
 // Why a rule refused a call.
-ghost use Rattle.std.specs.Prelude.{◌≡◌, Some};
+ghost use Rattle.std.specs.Prelude.{Some};
 ghost use Rattle.consensus.specs.Replies.{number, place, words};
 
+use refusal::{Fault, Refusal};
 use std::error::Error;
 use std::fmt;
 
@@ -17,34 +18,22 @@ pub enum RuleFault {
     Range,
 }
 
-impl RuleFault {
-    pub fn number(&self) -> u8
-        ensures { result ≡ number self.now }
-    {
-        match self {
-            RuleFault::Limits => 1,
-            RuleFault::Distance => 2,
-            RuleFault::Draw => 5,
-            RuleFault::Range => 8,
-        }
-    }
+// A rule's refusals all stand at place 0.
+impl Fault for RuleFault {
+    ghost number_of = { number };
 
-    // A rule's refusals all stand at place 0.
-    pub fn place(&self) -> usize
-        ensures { result ≡ place self.now }
-    {
-        0
-    }
+    ghost place_of = { place };
 
-    // What is wrong, in words.
-    pub fn words(&self) -> &'static str
-        ensures { result.now ≡ words self.now }
-    {
+    ghost words_of = { words };
+
+    fn refusal(&self) -> Refusal {
         match self {
-            RuleFault::Limits => "the numbers of a rule are outside their limits",
-            RuleFault::Distance => "no distance exists for the numbers of a rule",
-            RuleFault::Draw => "a draw is out of range",
-            RuleFault::Range => "a sum or a hint is out of range",
+            RuleFault::Limits => {
+                Refusal::new(1, "the numbers of a rule are outside their limits")
+            }
+            RuleFault::Distance => Refusal::new(2, "no distance exists for the numbers of a rule"),
+            RuleFault::Draw => Refusal::new(5, "a draw is out of range"),
+            RuleFault::Range => Refusal::new(8, "a sum or a hint is out of range"),
         }
     }
 }
@@ -53,7 +42,7 @@ impl fmt::Display for RuleFault {
     ghost output = { λ fault. Some (words fault) };
 
     fn fmt<W: fmt::Write>(&self, f: &mut fmt::Formatter<W>) -> fmt::Result {
-        write!(f, "{}", self.words())
+        f.write_str(self.words())
     }
 }
 

@@ -4,9 +4,10 @@
 pub mod akcn;
 pub mod arithmetic;
 pub mod carry;
-mod distance;
 pub mod evenness;
 pub mod examples;
 pub mod fault;
+pub mod kind;
+pub mod numbers;
 pub mod okcn;
 pub mod rule;

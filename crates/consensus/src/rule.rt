@@ -2,32 +2,52 @@
 ghost use Rattle.std.specs.Prelude.{◌≡◌};
 ghost use Rattle.consensus.specs.Consensus.{Consensus};
 ghost use Rattle.consensus.specs.Laws.{Lawful};
+ghost use Rattle.consensus.specs.Numbers.{numbers_of};
 ghost use Rattle.consensus.specs.Replies.{settle_reply, recover_reply};
 
 use crate::fault::RuleFault;
+use crate::numbers::Numbers;
 
 pub trait Rule {
     ghost meaning: { Self → Consensus };
 
+    fn numbers(&self) -> Numbers
+        ensures { result ≡ numbers_of (meaning self.now) };
+
     // q: sums run from 0 to q - 1.
     fn modulus(&self) -> u32
-        ensures { result ≡ (meaning self.now).modulus };
+        ensures { result ≡ (meaning self.now).modulus }
+    {
+        self.numbers().modulus
+    }
 
     // m: digits run from 0 to m - 1.
     fn digits(&self) -> u32
-        ensures { result ≡ (meaning self.now).digits };
+        ensures { result ≡ (meaning self.now).digits }
+    {
+        self.numbers().digits
+    }
 
     // g: hints run from 0 to g - 1.
     fn hints(&self) -> u32
-        ensures { result ≡ (meaning self.now).hints };
+        ensures { result ≡ (meaning self.now).hints }
+    {
+        self.numbers().hints
+    }
 
     // d: sums that lie at most so far apart around q come to one digit.
     fn distance(&self) -> u32
-        ensures { result ≡ (meaning self.now).distance };
+        ensures { result ≡ (meaning self.now).distance }
+    {
+        self.numbers().distance
+    }
 
     // C: draws run from 0 to C - 1.
     fn draws(&self) -> u32
-        ensures { result ≡ (meaning self.now).draws };
+        ensures { result ≡ (meaning self.now).draws }
+    {
+        self.numbers().draws
+    }
 
     // The digit of a sum, and the hint for the other side. A sum out of range is refused first, then a draw.
     fn settle(&self, sum: u16, draw: u16) -> Result<(u16, u16), RuleFault>

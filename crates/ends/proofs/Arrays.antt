@@ -1,5 +1,5 @@
 -- Matrices in arrays: the front of a padded array, and entries below the modulus. Assumes nothing.
-use Rattle.std.proofs.Common.{◌≡◌, ℕ, ◌+◌, ◌-◌, ◌*◌, ◌/◌, ◌%◌, ◌<◌, ◌≤◌, true, List, length, get_or, take, replicate, ℤ, pos, is_ok, Ok, Result, sym, refl, ◌∙◌, arith, eq-eqb}
+use Rattle.std.proofs.Common.{◌≡◌, ℕ, ◌+◌, ◌-◌, ◌*◌, ◌/◌, ◌%◌, ◌<◌, ◌≤◌, true, List, length, get_or, take, replicate, ℤ, pos, Ok, Result, sym, refl, ◌∙◌, arith, eq-eqb}
 use native.Mathlib.Decide.{dec_lt}
 use Rattle.std.proofs.lemmas.List.FromFn.{get_or-map-range_with_len, length-map-range_with_len}
 use Rattle.std.proofs.lemmas.List.{get_or_append_left, get_or-append_right, get_or_past, get_or-replicate, length-replicate, take_all, take-append-le}
@@ -56,6 +56,3 @@ imaged_is m seed n l image xs side known e =
     let fits = eq-eqb m.side n side in
     let p : ◌≡◌ {A = Result (List ℕ) SourceFault} (Ok xs) (Ok (padded 0 8192 (by_rows n l image))) = e ∙ rw (fits, known) in
     cc
-
-pub image_granted : (m : Matrices) (seed : List ℕ) (n l : ℕ) (image : Residues) → m.side ≡ n → m.known seed ≡ true → is_ok (image_reply m seed n l image) ≡ true
-image_granted m seed n l image side known = rw (eq-eqb m.side n side, known)

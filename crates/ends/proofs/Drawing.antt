@@ -1,22 +1,9 @@
 -- What the loops over a call's words come to. Assumes nothing.
-use Rattle.std.proofs.Common.{◌≡◌, ℕ, zero, suc, ◌+◌, ◌<◌, ◌≤◌, List, [], ◌∷◌, length, get_or, take, drop, Some, None, ◌∙◌, arith, length-drop, length-take}
-use Rattle.std.proofs.lemmas.List.{at_drop_more, at_drop_all, get_or-take, get_or-drop}
-use Rattle.std.proofs.lemmas.Bool.{cond-true, cond-false, lt-ltb, le-ltb}
+use Rattle.std.proofs.Common.{◌≡◌, ℕ, zero, suc, ◌+◌, ◌<◌, ◌≤◌, List, [], ◌∷◌, length, get_or, take, drop, None, ◌∙◌, arith, length-drop, length-take}
+use Rattle.std.proofs.lemmas.List.{get_or-take, get_or-drop}
 use Rattle.std.proofs.lemmas.Bool.Decides.{nat_tests}
 use Rattle.ends.specs.declared.draws.WordsNeeded.{WordsNeeded}
-use Rattle.ends.specs.declared.fault.EndFault.TheVariants.{Draw}
 use Rattle.ends.specs.Draws.{limit_at, first_over}
-
--- one turn of the loop over words, and its end
-module _ (needed : WordsNeeded) (i : ℕ) (words : List ℕ) where
-  pub over_here : i < length words → limit_at needed i ≤ get_or words i 0 → first_over needed i (drop i words) ≡ Some (Draw i)
-  over_here inside h = at_drop_more (first_over needed i) words i 0 inside ∙ cond-false _ _ _ (le-ltb _ _ h)
-
-  pub over_on : i < length words → get_or words i 0 < limit_at needed i → first_over needed i (drop i words) ≡ first_over needed (i + 1) (drop (i + 1) words)
-  over_on inside h = at_drop_more (first_over needed i) words i 0 inside ∙ cond-true _ _ _ (lt-ltb _ _ h)
-
-  pub over_end : length words ≤ i → first_over needed i (drop i words) ≡ None
-  over_end h = at_drop_all (first_over needed i) words i h
 
 -- where no word is at fault each is below its limit
 pub all_below : (needed : WordsNeeded) (i : ℕ) (words : List ℕ) → first_over needed i words ≡ None → (k : ℕ) → k < length words → get_or words k 0 < limit_at needed (i + k)

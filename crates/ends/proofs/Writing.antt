@@ -1,5 +1,5 @@
 -- What a written message is to the end that wrote it. Assumes nothing.
-use Rattle.std.proofs.Common.{◌≡◌, ℕ, ◌≤◌, Bool, true, false, cond, leb, List, ◌++◌, length, drop, is_ok, Ok, Err, Result, sym, ap, ◌∙◌, le-leb}
+use Rattle.std.proofs.Common.{◌≡◌, ℕ, Bool, true, false, cond, leb, List, ◌++◌, length, drop, Ok, Err, Result, sym, ap, ◌∙◌}
 use Rattle.lwe.specs.Limits.{Dimensions}
 use Rattle.wire.specs.Headers.{message_length}
 use Rattle.wire.specs.Messages.{Fields, encode, Written, buffer_after}
@@ -9,9 +9,6 @@ use Rattle.wire.specs.declared.kind.Kind.{Kind}
 use Rattle.ends.specs.Calls.{written}
 
 module _ {d : Dimensions} {k : Kind} {f : Fields} {room out : List ℕ} {r : Result ℕ WireFault} (w : Written d k f room out r) where
-  pub write_granted : message_length d k ≤ length room → is_ok r ≡ true
-  write_granted fits = ap is_ok w.answer ∙ rw (le-leb (message_length d k) (length room) fits)
-
   pub write_size : {size : ℕ} → r ≡ Ok size → size ≡ message_length d k
   write_size {size} ok = go (leb (message_length d k) (length room)) (sym ok ∙ w.answer)
     where

@@ -1,27 +1,20 @@
 -- The calls of an answering end: which refusal comes first, and what a call leaves. Assumes nothing.
-use Rattle.std.specs.Prelude.{◌≡◌, ℕ, ◌*◌, Bool, true, false, List, length, take, replicate, None, Option, Result, MatchResult, nat_le, nat_lt}
+use Rattle.std.specs.Prelude.{◌≡◌, ℕ, ◌*◌, List, length, take, replicate, None, Option, Result, MatchResult, nat_le, nat_lt}
 use Rattle.consensus.specs.Consensus.{hints_of}
-use Rattle.matrix.specs.declared.fault.SourceFault.TheVariants.{UnknownSeed}
 use Rattle.lwe.specs.Matrices.{by_rows}
 use Rattle.wire.specs.Bytes.{number_at}
 use Rattle.wire.specs.Headers.{message_length, header_fault}
 use Rattle.wire.specs.Messages.{Fields, answer, encode, decode, number_fault}
 use Rattle.wire.specs.declared.fault.WireFault.TheVariants.{Room}
 use Rattle.wire.specs.declared.kind.Kind.TheVariants.{Offer, Answer}
-use Rattle.ends.specs.declared.answering.AnsweringPhase.{AnsweringPhase}
-use Rattle.ends.specs.declared.answering.AnsweringPhase.TheVariants.{Idle, Keyed}
 use Rattle.ends.specs.declared.answering.AnsweringState.{AnsweringState}
 use Rattle.ends.specs.declared.fault.EndFault.{EndFault}
-use Rattle.ends.specs.declared.fault.EndFault.TheVariants.{State, Number, Again, Message, Source}
-use Rattle.ends.specs.AnsweringStates.{answered, heard, settled}
-use Rattle.ends.specs.Calls.{of_message, written}
+use Rattle.ends.specs.declared.fault.EndFault.TheVariants.{State, Number, Again, Message}
+use Rattle.ends.specs.AnsweringStates.{answered, heard, holds_key, settled}
+use Rattle.ends.specs.Calls.{of_message, seed_fault, written}
 use Rattle.ends.specs.Draws.{draw_fault}
 use Rattle.ends.specs.Refusals.{check, first_of, unless}
 use Rattle.ends.specs.Settings.{Setting, extent, hear_needs}
-
-abbrev pub holds_key : AnsweringPhase → Bool
-holds_key Idle = false
-holds_key Keyed = true
 
 -- ---- hear
 
@@ -39,13 +32,13 @@ hear_checks s words room = check (nat_le (message_length (extent s) Answer) room
 abbrev pub hear_fault : Setting → AnsweringState → (message words : List ℕ) → (room : ℕ) → Option EndFault
 hear_fault s state message words room =
     first_of (offer_fault s state message)
-    (first_of (hear_checks s words room) (check (s.matrices.known (decode (extent s) Offer message).seed) (Source UnknownSeed) None))
+    (first_of (hear_checks s words room) (seed_fault s.matrices (decode (extent s) Offer message).seed))
 
 -- the session that is heard
 abbrev pub hearing : Setting → (message words : List ℕ) → AnsweringState
 hearing s message words =
     let offer = decode (extent s) Offer message in
-    heard s.matrices.side s.la s.lb s.rule s.matrices s.law offer.session offer.seed offer.entries words
+    heard s offer.session offer.seed offer.entries words
 
 -- the answer to an offer
 abbrev pub answer_of : Setting → (message words : List ℕ) → Fields

@@ -1,13 +1,15 @@
 -- What an answering end holds, and what the steps of its sessions leave. Assumes nothing.
-use Rattle.std.specs.Prelude.{ℕ, ◌*◌, List, map, take, drop, replicate, ℤ, pos}
+use Rattle.std.specs.Prelude.{ℕ, ◌*◌, Bool, true, false, cond, Some, None, Option, List, map, take, drop, replicate, ℤ, pos}
 use Rattle.consensus.specs.Consensus.{Consensus, settle_all, digits_of, hints_of}
 use Rattle.matrix.specs.Matrices.{Matrices}
 use Rattle.noise.specs.Laws.{value_of}
 use Rattle.lwe.specs.Exchange.{Y2, Σ2}
 use Rattle.lwe.specs.Images.{public_matrix}
 use Rattle.lwe.specs.Matrices.{Residues, by_rows, padded, plain, signed}
+use Rattle.ends.specs.declared.answering.AnsweringPhase.{AnsweringPhase}
 use Rattle.ends.specs.declared.answering.AnsweringPhase.TheVariants.{Idle, Keyed}
 use Rattle.ends.specs.declared.answering.AnsweringState.{AnsweringState}
+use Rattle.ends.specs.Settings.{Setting}
 
 -- behind the words of X2, E2 and Eσ stand the draws of the rule
 abbrev pub rule_draws : (n la lb : ℕ) → List ℕ → List ℕ
@@ -50,30 +52,42 @@ blank session = record {
   sum_noise = replicate 64 (pos 0);
 }
 
+-- nothing is left of a session but its number
+abbrev pub forgotten : AnsweringState → AnsweringState
+forgotten before = blank before.number
+
+abbrev pub holds_key : AnsweringPhase → Bool
+holds_key Idle = false
+holds_key Keyed = true
+
+-- the digits, while the key is there
+abbrev pub key_of : AnsweringState → Option (List ℕ)
+key_of s = cond (holds_key s.phase) (Some s.digits) None
+
 -- a session that was heard and answered
-abbrev pub heard : (n la lb : ℕ) → Consensus → Matrices → (law session : ℕ) → List ℕ → List ℕ → List ℕ → AnsweringState
-heard n la lb rule m law session seed y1 words = record {
+abbrev pub heard : Setting → (session : ℕ) → (seed y1 words : List ℕ) → AnsweringState
+heard s session seed y1 words = record {
   phase = Keyed;
   number = session;
-  image = padded 0 8192 (by_rows n lb (answered rule.modulus n lb m law seed words));
-  hints = padded 0 64 (hints_of (settled n la lb rule law y1 words));
-  digits = padded 0 64 (digits_of (settled n la lb rule law y1 words));
+  image = padded 0 8192 (by_rows s.matrices.side s.lb (answered s.rule.modulus s.matrices.side s.lb s.matrices s.law seed words));
+  hints = padded 0 64 (hints_of (settled s.matrices.side s.la s.lb s.rule s.law y1 words));
+  digits = padded 0 64 (digits_of (settled s.matrices.side s.la s.lb s.rule s.law y1 words));
   secret = replicate 8192 (pos 0);
   noise = replicate 8192 (pos 0);
   sum_noise = replicate 64 (pos 0);
 }
 
 -- what is drawn while an offer is heard
-abbrev pub drawing : (n la lb law : ℕ) → List ℕ → AnsweringState → AnsweringState
-drawing n la lb law words before = record {
+abbrev pub drawing : Setting → (words : List ℕ) → AnsweringState → AnsweringState
+drawing s words before = record {
   phase = before.phase;
   number = before.number;
   image = before.image;
   hints = before.hints;
   digits = before.digits;
-  secret = padded (pos 0) 8192 (drawn_X2 n lb law words);
-  noise = padded (pos 0) 8192 (drawn_E2 n lb law words);
-  sum_noise = padded (pos 0) 64 (drawn_Eσ n la lb law words);
+  secret = padded (pos 0) 8192 (drawn_X2 s.matrices.side s.lb s.law words);
+  noise = padded (pos 0) 8192 (drawn_E2 s.matrices.side s.lb s.law words);
+  sum_noise = padded (pos 0) 64 (drawn_Eσ s.matrices.side s.la s.lb s.law words);
 }
 
 abbrev pub cleared : AnsweringState → AnsweringState

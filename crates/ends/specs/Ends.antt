@@ -1,77 +1,52 @@
--- What the ends hold beside their sessions, and what their calls leave of it. Assumes nothing.
+-- What an end works by beside its sessions, and what its calls leave of it. Assumes nothing.
 use Rattle.std.specs.Prelude.{◌≡◌, ℕ, ◌&&◌, None, Err, Option, Result, ◌==◌, nat_le}
-use Rattle.std.specs.Borrow.{Bor}
 use Rattle.consensus.specs.Consensus.{Consensus}
 use Rattle.matrix.specs.Matrices.{Matrices}
-use Rattle.ends.specs.declared.answering.AnsweringState.{AnsweringState}
-use Rattle.ends.specs.declared.answering_end.AnsweringEnd.{AnsweringEnd}
+use Rattle.noise.specs.Replies.{number_of}
+use Rattle.ends.specs.declared.end.End.{End}
 use Rattle.ends.specs.declared.fault.EndFault.{EndFault}
 use Rattle.ends.specs.declared.fault.EndFault.TheVariants.{Settings, Moduli}
-use Rattle.ends.specs.declared.opening.OpeningState.{OpeningState}
-use Rattle.ends.specs.declared.opening_end.OpeningEnd.{OpeningEnd}
+use Rattle.ends.specs.declared.works.Works.{Works}
 use Rattle.ends.specs.Refusals.{check}
 use Rattle.ends.specs.Settings.{Setting}
 
--- what an end works by
-pub record Works (R S : Type 0) : Type 0 where
-  pub rule : Bor R
-  pub source : S
-  pub la : ℕ
-  pub lb : ℕ
-  pub law : ℕ
+-- what it means
+abbrev pub setting : {R S : Type 0} → (R → Consensus) → (S → Matrices) → Works R S → Setting
+setting rule_of matrices_of w = record {
+  rule = rule_of w.rule.now;
+  matrices = matrices_of w.source;
+  la = w.la;
+  lb = w.lb;
+  law = number_of w.law;
+}
 
-abbrev pub opening_works : {R S : Type 0} → OpeningEnd R S → Works R S
-opening_works e = record { rule = e.rule; source = e.source; la = e.la; lb = e.lb; law = e.law }
+module _ {R S : Type 0} where
+  -- what is handed in is what it works by
+  pub record MadeOf (rule : R) (source : S) (la lb law : ℕ) (w : Works R S) : Type 0 where
+    pub rule_is : w.rule.now ≡ rule
+    pub source_is : w.source ≡ source
+    pub la_is : w.la ≡ la
+    pub lb_is : w.lb ≡ lb
+    pub law_is : number_of w.law ≡ law
 
-abbrev pub answering_works : {R S : Type 0} → AnsweringEnd R S → Works R S
-answering_works e = record { rule = e.rule; source = e.source; la = e.la; lb = e.lb; law = e.law }
+  -- nothing is changed but the row that the source is turned to
+  pub record KeptWorks (matrices_of : S → Matrices) (before after : Works R S) : Type 0 where
+    pub rule : after.rule ≡ before.rule
+    pub la : after.la ≡ before.la
+    pub lb : after.lb ≡ before.lb
+    pub law : after.law ≡ before.law
+    pub matrices : matrices_of after.source ≡ matrices_of before.source
 
--- and what that means
-module _ {R S : Type 0} (rule_of : R → Consensus) (matrices_of : S → Matrices) where
-  abbrev pub setting : Works R S → Setting
-  setting w = record {
-    rule = rule_of w.rule.now;
-    matrices = matrices_of w.source;
-    la = w.la;
-    lb = w.lb;
-    law = w.law;
-  }
-
-  abbrev pub opening_setting : OpeningEnd R S → Setting
-  opening_setting e = setting (opening_works e)
-
-  abbrev pub answering_setting : AnsweringEnd R S → Setting
-  answering_setting e = setting (answering_works e)
-
-abbrev pub opening_state : {R S : Type 0} → OpeningEnd R S → OpeningState
-opening_state e = e.state
-
-abbrev pub answering_state : {R S : Type 0} → AnsweringEnd R S → AnsweringState
-answering_state e = e.state
-
--- for either end, by what it works by and by its state
-module _ {R S E T : Type 0} (works : E → Works R S) (state_of : E → T) where
-  -- a call keeps what the end works by, but for the row that its source is turned to; a refused one keeps the whole end
-  pub record Kept {X : Type 0} (matrices_of : S → Matrices) (before after : E) (r : Result X EndFault) : Type 0 where
-    pub rule : (works after).rule ≡ (works before).rule
-    pub la : (works after).la ≡ (works before).la
-    pub lb : (works after).lb ≡ (works before).lb
-    pub law : (works after).law ≡ (works before).law
-    pub matrices : matrices_of (works after).source ≡ matrices_of (works before).source
+module _ {R S T : Type 0} where
+  -- a call keeps what the end works by; a refused one keeps the whole end
+  pub record Kept {X : Type 0} (matrices_of : S → Matrices) (before after : End R S T) (r : Result X EndFault) : Type 0 where
+    pub works : KeptWorks matrices_of before.works after.works
     pub refused : (fault : EndFault) → r ≡ Err fault → after ≡ before
 
   -- nothing but the session is forgotten
-  pub record Forgets (blank : T) (before after : E) : Type 0 where
-    pub same : works after ≡ works before
-    pub state : state_of after ≡ blank
-
-  pub record New (rule : R) (source : S) (la lb law : ℕ) (blank : T) (e : E) : Type 0 where
-    pub rule_is : (works e).rule.now ≡ rule
-    pub source_is : (works e).source ≡ source
-    pub la_is : (works e).la ≡ la
-    pub lb_is : (works e).lb ≡ lb
-    pub law_is : (works e).law ≡ law
-    pub state : state_of e ≡ blank
+  pub record Forgets (forgotten : T) (before after : End R S T) : Type 0 where
+    pub same : after.works ≡ before.works
+    pub state : after.state ≡ forgotten
 
 -- what a new end is refused for: columns or a law outside their limits, then two moduli
 abbrev pub new_fault : Consensus → Matrices → (la lb law : ℕ) → Option EndFault

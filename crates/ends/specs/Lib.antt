@@ -2,10 +2,10 @@ pub mod Faults
 pub mod Refusals
 pub mod Draws
 pub mod Keys
+pub mod Settings
 pub mod OpeningStates
 pub mod AnsweringStates
 pub mod Agreement
-pub mod Settings
 pub mod Calls
 pub mod OpeningCalls
 pub mod AnsweringCalls

@@ -1,6 +1,5 @@
 -- The calls of an opening end: which refusal comes first, and what a call leaves. Assumes nothing.
 use Rattle.std.specs.Prelude.{◌≡◌, ℕ, ◌+◌, ◌*◌, Bool, true, false, not, List, length, take, replicate, None, Option, Result, MatchResult, ◌==◌, nat_le, nat_lt}
-use Rattle.matrix.specs.declared.fault.SourceFault.TheVariants.{UnknownSeed}
 use Rattle.lwe.specs.Matrices.{by_rows}
 use Rattle.wire.specs.Bytes.{number_at}
 use Rattle.wire.specs.Headers.{message_length, header_fault}
@@ -8,13 +7,13 @@ use Rattle.wire.specs.Messages.{Fields, offer, encode, decode, number_fault}
 use Rattle.wire.specs.declared.fault.WireFault.TheVariants.{Room}
 use Rattle.wire.specs.declared.kind.Kind.TheVariants.{Offer, Answer}
 use Rattle.ends.specs.declared.fault.EndFault.{EndFault}
-use Rattle.ends.specs.declared.fault.EndFault.TheVariants.{State, Spent, Number, Again, Message, Source}
+use Rattle.ends.specs.declared.fault.EndFault.TheVariants.{State, Spent, Number, Again, Message}
 use Rattle.ends.specs.declared.opening.OpeningPhase.{OpeningPhase}
 use Rattle.ends.specs.declared.opening.OpeningPhase.TheVariants.{Idle, Waiting, Keyed}
 use Rattle.ends.specs.declared.opening.OpeningState.{OpeningState}
 use Rattle.ends.specs.Draws.{draw_fault}
-use Rattle.ends.specs.Calls.{of_message, written}
-use Rattle.ends.specs.OpeningStates.{opened, offered, keyed}
+use Rattle.ends.specs.Calls.{of_message, seed_fault, written}
+use Rattle.ends.specs.OpeningStates.{holds_key, opened, offered, keyed}
 use Rattle.ends.specs.Refusals.{check, first_of, unless}
 use Rattle.ends.specs.Settings.{Setting, extent, open_needs}
 
@@ -28,12 +27,11 @@ open_checks s state words room =
 
 abbrev pub open_fault : Setting → OpeningState → (seed words : List ℕ) → (room : ℕ) → Option EndFault
 open_fault s state seed words room =
-    first_of (open_checks s state words room) (check (s.matrices.known seed) (Source UnknownSeed) None)
+    first_of (open_checks s state words room) (seed_fault s.matrices seed)
 
 -- the session that is opened
 abbrev pub opening : Setting → OpeningState → (seed words : List ℕ) → OpeningState
-opening s before seed words =
-    opened s.rule.modulus s.matrices.side s.la s.matrices s.law (before.number + 1) seed words
+opening s before seed words = opened s (before.number + 1) seed words
 
 -- the offer of a session that words have drawn
 abbrev pub offer_of : Setting → (session : ℕ) → (seed words : List ℕ) → Fields
@@ -73,11 +71,6 @@ open_session Idle = false
 open_session Waiting = true
 open_session Keyed = true
 
-abbrev pub holds_key : OpeningPhase → Bool
-holds_key Idle = false
-holds_key Waiting = false
-holds_key Keyed = true
-
 abbrev pub take_fault : Setting → OpeningState → List ℕ → Option EndFault
 take_fault s state message =
     check (open_session state.phase) State
@@ -88,8 +81,7 @@ take_fault s state message =
 -- the session with the key that the answer gives
 abbrev pub taking : Setting → OpeningState → List ℕ → OpeningState
 taking s before message =
-    let answer = decode (extent s) Answer message in
-    keyed s.matrices.side s.la s.lb s.rule answer.entries answer.hints before
+    let answer = decode (extent s) Answer message in keyed s answer.entries answer.hints before
 
 pub record Takes (s : Setting) (message : List ℕ) (before after : OpeningState) (r : Result ℕ EndFault) : Type 0 where
   pub answer : r ≡ unless (take_fault s before message) before.number

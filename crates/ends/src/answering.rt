@@ -9,6 +9,7 @@ pub enum AnsweringPhase {
     Keyed,
 }
 
+// The arrays stand beside the phase for the reasons that hold for an opening end.
 #[derive(Drop)]
 pub struct AnsweringState {
     pub phase: AnsweringPhase,

@@ -38,8 +38,8 @@ impl WordsNeeded {
         if words.len() != needed {
             return Err(EndFault::DrawCount { needed });
         }
-        for i in 0..words.len() {
-            if words[i] as u32 >= self.limit(i) {
+        for (i, word) in words.iter().enumerate() {
+            if u32::from(*word) >= self.limit(i) {
                 return Err(EndFault::Draw { index: i });
             }
         }
@@ -54,7 +54,8 @@ pub(crate) fn sample(law: &NoiseLaw, words: &[u16], values: &mut [i16])
     ensures { values.new ≡ padded (pos 0) (length values.old) (map (value_of (number_of law.now)) words.now) }
 {
     values.fill(0);
-    for k in 0..words.len() {
-        values[k] = law.value(words[k]).unwrap();
+    // by index: what is written through a `zip` is not known to a proof
+    for (k, word) in words.iter().enumerate() {
+        values[k] = law.value(*word).unwrap();
     }
 }

@@ -4,6 +4,7 @@ ghost use Rattle.ends.specs.Faults.{number, place, words};
 ghost use Rattle.ends.specs.declared.fault.EndFault.TheVariants.{Message, Source};
 
 use matrix::fault::SourceFault;
+use refusal::{Fault, Refusal};
 use std::error::Error;
 use std::fmt;
 use wire::fault::WireFault;
@@ -34,63 +35,36 @@ pub enum EndFault {
     Source(SourceFault),
 }
 
-impl EndFault {
-    pub fn number(&self) -> u8
-        ensures { result ≡ number self.now }
-    {
-        match self {
-            EndFault::Settings => 1,
-            EndFault::Moduli => 3,
-            EndFault::DrawCount { .. } => 5,
-            EndFault::Draw { .. } => 5,
-            EndFault::State => 6,
-            EndFault::Spent => 7,
-            EndFault::Place => 8,
-            EndFault::Number => 11,
-            EndFault::Again => 12,
-            EndFault::Message(fault) => fault.number(),
-            EndFault::Source(fault) => fault.number(),
-        }
-    }
+impl Fault for EndFault {
+    ghost number_of = { number };
 
-    pub fn place(&self) -> usize
-        ensures { result ≡ place self.now }
-    {
-        match self {
-            EndFault::DrawCount { needed } => *needed,
-            EndFault::Draw { index } => *index,
-            EndFault::Message(fault) => fault.place(),
-            EndFault::Source(fault) => fault.place(),
-            EndFault::Settings
-            | EndFault::Moduli
-            | EndFault::State
-            | EndFault::Spent
-            | EndFault::Place
-            | EndFault::Number
-            | EndFault::Again => 0,
-        }
-    }
+    ghost place_of = { place };
 
-    // What is wrong, in words.
-    pub fn words(&self) -> &'static str
-        ensures { result.now ≡ words self.now }
-    {
+    ghost words_of = { words };
+
+    fn refusal(&self) -> Refusal {
         match self {
-            EndFault::Settings => "the columns or the law of an end are outside their limits",
-            EndFault::Moduli => "the rule and the source differ in their modulus",
-            EndFault::DrawCount { .. } => "the count of draws is wrong",
-            EndFault::Draw { .. } => "a draw is out of range",
-            EndFault::State => "the state of the end does not allow the call",
-            EndFault::Spent => "the last session number is the largest",
-            EndFault::Place => "a place of the key is out of range",
-            EndFault::Number => "the message is of another session",
-            EndFault::Again => "the session was answered or keyed already",
-            EndFault::Message(fault) => fault.words(),
-            EndFault::Source(fault) => fault.words(),
+            EndFault::Settings => Refusal::new(
+                1,
+                "the columns or the law of an end are outside their limits",
+            ),
+            EndFault::Moduli => Refusal::new(3, "the rule and the source differ in their modulus"),
+            EndFault::DrawCount { needed } => {
+                Refusal::at(5, *needed, "the count of draws is wrong")
+            }
+            EndFault::Draw { index } => Refusal::at(5, *index, "a draw is out of range"),
+            EndFault::State => Refusal::new(6, "the state of the end does not allow the call"),
+            EndFault::Spent => Refusal::new(7, "the last session number is the largest"),
+            EndFault::Place => Refusal::new(8, "a place of the key is out of range"),
+            EndFault::Number => Refusal::new(11, "the message is of another session"),
+            EndFault::Again => Refusal::new(12, "the session was answered or keyed already"),
+            EndFault::Message(fault) => fault.refusal(),
+            EndFault::Source(fault) => fault.refusal(),
         }
     }
 }
 
+// Both by hand: a derived one does not say which fault it makes.
 impl From<WireFault> for EndFault {
     ghost from_gives = { λ fault r. r ≡ Message fault };
 
@@ -111,7 +85,7 @@ impl fmt::Display for EndFault {
     ghost output = { λ fault. Some (words fault) };
 
     fn fmt<W: fmt::Write>(&self, f: &mut fmt::Formatter<W>) -> fmt::Result {
-        write!(f, "{}", self.words())
+        f.write_str(self.words())
     }
 }
 

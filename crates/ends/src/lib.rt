@@ -2,12 +2,12 @@
 #![tactic(auto)]
 
 pub mod answering;
-mod answering_end;
 mod draws;
+mod end;
 pub mod fault;
 pub mod opening;
-mod opening_end;
 mod places;
-mod setting;
+mod session;
 pub mod theorems;
 mod wipe;
+mod works;

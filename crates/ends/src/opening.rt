@@ -11,6 +11,8 @@ pub enum OpeningPhase {
     Keyed,
 }
 
+// The arrays stand beside the phase, and not in it: there is no heap, a change of phase would move 48 KiB, and an end that
+// forgets has to overwrite them where they are.
 #[derive(Drop)]
 pub struct OpeningState {
     pub phase: OpeningPhase,

@@ -7,7 +7,8 @@ ghost use Rattle.ends.specs.Keys.{recover_all};
 
 use consensus::rule::Rule;
 
-// Settles a sum with each draw: the digits and the hints, and zeros behind them.
+// Settles a sum with each draw: the digits and the hints, and zeros behind them. The two lists that it writes stand apart in
+// the state of an end, so they are two parameters.
 pub(crate) fn settle_places<R: Rule>(
     rule: &R,
     sums: &[u16],
@@ -23,8 +24,9 @@ pub(crate) fn settle_places<R: Rule>(
 {
     digits.fill(0);
     hints.fill(0);
-    for k in 0..draws.len() {
-        let (digit, hint) = rule.settle(sums[k], draws[k]).unwrap();
+    // by index: of `enumerate` over a `zip` a proof does not know the items
+    for (k, draw) in draws.iter().enumerate() {
+        let (digit, hint) = rule.settle(sums[k], *draw).unwrap();
         digits[k] = digit;
         hints[k] = hint;
     }
@@ -38,7 +40,8 @@ pub(crate) fn recover_places<R: Rule>(rule: &R, sums: &[u16], hints: &[u16], dig
     ensures { digits.new ≡ padded 0 (length digits.old) (recover_all (R.Rule.meaning rule.now) sums.now hints.now) }
 {
     digits.fill(0);
-    for k in 0..sums.len() {
-        digits[k] = rule.recover(sums[k], hints[k]).unwrap();
+    // by index, as above
+    for (k, sum) in sums.iter().enumerate() {
+        digits[k] = rule.recover(*sum, hints[k]).unwrap();
     }
 }

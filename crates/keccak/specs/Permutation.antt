@@ -83,8 +83,12 @@ rc t = register (t % 255) % 2
 unfoldable pub round_constant : (i : ℕ) → ℕ
 round_constant i = sum (map (λ j. rc (j + 7 * i) * 2 ^ (2 ^ j - 1)) (range_with_len 0 7))
 
+-- a constant XORed into lane (0, 0)
+abbrev pub with_constant : List ℕ → (constant : ℕ) → List ℕ
+with_constant a constant = slice_set a 0 (lane a 0 0 ⊕ constant)
+
 unfoldable pub iota : List ℕ → (i : ℕ) → List ℕ
-iota a i = slice_set a 0 (lane a 0 0 ⊕ round_constant i)
+iota a i = with_constant a (round_constant i)
 
 -- ---- rounds
 

@@ -1,7 +1,7 @@
 // The Keccak permutation: 24 rounds over a state of 25 lanes of 64 bits, where lane (x, y) stands at 5 * y + x.
 // The steps of a round are written out lane by lane, since loops over the lanes are much slower.
-ghost use Rattle.std.specs.Prelude.{◌≡◌, ◌<◌};
-ghost use Rattle.keccak.specs.Permutation.{theta_effects, theta, rho, pi, chi_row, chi, iota, round, permute};
+ghost use Rattle.std.specs.Prelude.{◌≡◌};
+ghost use Rattle.keccak.specs.Permutation.{theta_effects, theta, rho, pi, chi_row, chi, with_constant, permute};
 
 const ROUND_CONSTANTS: [u64; 24] = [
     0x0000000000000001,
@@ -146,20 +146,18 @@ fn chi(a: [u64; 25]) -> [u64; 25]
     ]
 }
 
-// Makes the rounds differ: XORs the constant of round i into lane (0, 0).
-fn iota(mut a: [u64; 25], i: usize) -> [u64; 25]
-    requires { i < 24 }
-    ensures { result ≡ iota a i }
+// Makes the rounds differ: XORs the constant of one into lane (0, 0).
+fn iota(mut a: [u64; 25], constant: u64) -> [u64; 25]
+    ensures { result ≡ with_constant a constant }
 {
-    a[0] ^= ROUND_CONSTANTS[i];
+    a[0] ^= constant;
     a
 }
 
-fn round(a: [u64; 25], i: usize) -> [u64; 25]
-    requires { i < 24 }
-    ensures { result ≡ round a i }
+fn round(a: [u64; 25], constant: u64) -> [u64; 25]
+    ensures { result ≡ with_constant (chi (pi (rho (theta a)))) constant }
 {
-    iota(chi(rho_pi(theta(a))), i)
+    iota(chi(rho_pi(theta(a))), constant)
 }
 
 // All 24 rounds. In place, which saves the sponge a copy of the state with each block.
@@ -167,8 +165,9 @@ pub(crate) fn permute_in_place(state: &mut [u64; 25])
     ensures { state.new ≡ permute state.old }
 {
     let mut a = *state;
-    for i in 0..24 {
-        let next = round(a, i);
+    for constant in &ROUND_CONSTANTS {
+        // Not `a = round(..)`: a call that writes over its own array gets no proof.
+        let next = round(a, *constant);
         a = next;
     }
     *state = a;

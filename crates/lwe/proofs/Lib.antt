@@ -1,8 +1,8 @@
 pub mod Arrays
-mod Bounds
 mod Places
 pub mod FiniteSums
 mod Residues
+mod RowLoops
 mod Rows
 mod Steps
 pub mod DriftIdentity

@@ -1,11 +1,15 @@
 -- Places of a list that holds rows of equal length, and a list of which one part was written. Assumes nothing.
-use Rattle.std.proofs.Common.{◌≡◌, ℕ, ◌+◌, ◌-◌, ◌*◌, ◌/◌, ◌%◌, ◌<◌, ◌≤◌, ◌≢◌, List, ◌++◌, length, get_or, take, drop, set, replicate, sym, refl, ap, ◌∙◌, mul-le-mul_right, add-mul, mul-le-mul_left, arith, length-drop, length-set, length-take, get_or-set_other, get_or-set_same, below_more}
+use Rattle.std.proofs.Common.{◌≡◌, ℕ, ◌+◌, ◌-◌, ◌*◌, ◌/◌, ◌%◌, ◌<◌, ◌≤◌, List, ◌++◌, length, get_or, map, take, drop, replicate, pos, sym, ap, ◌∙◌, subst, take-append-drop, mul-le-mul_right, add-mul, mul-le-mul_left, arith, length-drop, length-take, below_more}
+use Rattle.std.proofs.Math.ListN.{get_or-map}
+use Rattle.std.proofs.lemmas.Int.{ints}
 use native.Mathlib.Decide.{dec_lt}
 use borrow.Rule.Slice.PartMut.{put_mid, post_of, same_len_mid}
 use Rattle.std.proofs.lemmas.Nat.{div_below, mod_below, mul-add-lt, mul-le}
+use Rattle.std.specs.List.{between}
+use Rattle.std.proofs.lemmas.List.Edits.{length-between, get_or-between}
 use Rattle.std.proofs.lemmas.List.FromFn.{fill_by_all, get_or-map-range_with_len, length-map-range_with_len}
-use Rattle.std.proofs.lemmas.List.{get_or_append_left, get_or-append_right, get_or-drop, get_or_past, get_or-replicate, get_or-take, length-append, length-replicate, take_all}
-use Rattle.lwe.specs.Matrices.{Residues, by_rows, padded}
+use Rattle.std.proofs.lemmas.List.{drop-replicate, get_or_append_left, get_or-append_right, get_or-drop, get_or_past, get_or-replicate, get_or-take, length-replicate, take_all}
+use Rattle.lwe.specs.Matrices.{Matrix, Residues, by_rows, padded, plain, plus, signed}
 
 -- row j of n rows, each of l places, ends within them
 pub row_ends : (j n l : ℕ) → j < n → j * l + l ≤ n * l
@@ -18,6 +22,23 @@ within_array k l i hk hl hi = omega (arith, mul-add-lt k l i 1024 hk hi, mul-le 
 -- eight columns of at most 1024 places lie in an array of 8192
 pub row_within : (c n : ℕ) → c < 8 → n ≤ 1024 → c * n + n ≤ 8192
 row_within c n hc hn = omega (arith, row_ends c 8 n hc, mul-le-mul_left 8 hn)
+
+pub get_or_same : {X : Type 0} (n k : ℕ) (d : X) → get_or (replicate n d) k d ≡ d
+get_or_same n k d = elim (dec_lt k n) [
+  | yes h ↦ get_or-replicate n k d d h
+  | no h ↦ get_or_past (replicate n d) k d (rw length-replicate (omega arith))
+]
+
+-- a list of numbers from 0 up, as one of signed numbers
+pub plain_signed : (l : ℕ) (xs : List ℕ) → signed l (map pos xs) ≡ plain l xs
+plain_signed l xs = λ t i j. get_or-map pos xs (i * l + j) 0 t
+
+-- noise of zeros changes nothing
+pub no_noise : (n l : ℕ) (a : Matrix) → plus a (signed l (replicate n (pos 0))) ≡ a
+no_noise n l a = λ t i j. still i j t
+  where
+    still : (i j : ℕ) → plus a (signed l (replicate n (pos 0))) i j ≡ a i j
+    still i j = rw (get_or_same n (i * l + j) (pos 0)) (omega (arith, ints))
 
 -- matrices that agree lie in equal lists
 pub by_rows_same : (m l : ℕ) (a b : Residues) → 0 < l → ((i : ℕ) → i < m → (j : ℕ) → j < l → a i j ≡ b i j) → by_rows m l a ≡ by_rows m l b
@@ -32,48 +53,33 @@ pub record Filled (size count : ℕ) (f : ℕ → ℕ) (xs : List ℕ) : Type 0 
   pub below : (k : ℕ) → k < count → get_or xs k 0 ≡ f k
   pub above : (k : ℕ) → count ≤ k → get_or xs k 0 ≡ 0
 
-pub get_or_same : {X : Type 0} (n k : ℕ) (d : X) → get_or (replicate n d) k d ≡ d
-get_or_same n k d = elim (dec_lt k n) [
-  | yes h ↦ get_or-replicate n k d d h
-  | no h ↦ get_or_past (replicate n d) k d (rw length-replicate (omega arith))
-]
-
 pub filled_none : (f : ℕ → ℕ) (size : ℕ) → Filled size 0 f (replicate size 0)
 filled_none f size = record { long = length-replicate size 0; below = λ k h. absurd (omega arith); above = λ k h. get_or_same size k 0 }
 
-pub filled_more : (f : ℕ → ℕ) (xs : List ℕ) (size i x : ℕ) → i < size → x ≡ f i → Filled size i f xs → Filled size (i + 1) f (set xs i x)
-filled_more f xs size i x h e filled =
-    let within : i < length xs = omega (arith, filled.long) in
-    record {
-      long = rw length-set filled.long;
-      below = below_more _ _ (λ k m. let ne : k ≢ i = omega arith in rw get_or-set_other (filled.below k m)) (rw get_or-set_same e);
-      above = λ k m. let ne : k ≢ i = omega arith in rw get_or-set_other (filled.above k (omega arith));
-    }
+-- a whole matrix, at the front of an array of zeros
+pub front_all : (size m l : ℕ) (a : Residues) (ys : List ℕ) → m * l ≤ size → length ys ≡ m * l → ((k : ℕ) → k < m * l → get_or ys k 0 ≡ a (k / l) (k % l))
+    → ys ++ drop (m * l) (replicate {A = ℕ} size 0) ≡ padded 0 size (by_rows m l a)
+front_all size m l a ys fits long at = λ i. front i ++ rest i where
+  rows_length : length (by_rows m l a) ≡ m * l
+  rows_length = length-map-range_with_len (λ k. a (k / l) (k % l)) 0 (m * l)
 
--- a whole matrix, at the front of an array
+  front : ys ≡ take size (by_rows m l a)
+  front = fill_by_all (λ k. a (k / l) (k % l)) ys (m * l) 0 long at ∙ sym (take_all size (by_rows m l a) (omega (arith, rows_length)))
+
+  rest : drop (m * l) (replicate {A = ℕ} size 0) ≡ replicate (size - length (by_rows m l a)) 0
+  rest = drop-replicate (m * l) size 0 ∙ ap (λ j. replicate j 0) (omega (arith, rows_length))
+
+-- the same for a list that is filled from its front on
 pub filled_all : (size count m l : ℕ) (a : Residues) (xs : List ℕ) → count ≡ m * l → m * l ≤ size → Filled size count (λ k. a (k / l) (k % l)) xs → xs ≡ padded 0 size (by_rows m l a)
 filled_all size count m l a xs whole fits filled =
-    fill_by_all (λ k. get_or xs k 0) xs size 0 filled.long (λ k h. refl)
-    ∙ sym (fill_by_all (λ k. get_or xs k 0) (by_rows m l a ++ replicate (size - length (by_rows m l a)) 0) size 0 whole_length (λ k h. at k))
-    ∙ ap (λ front. front ++ replicate (size - length (by_rows m l a)) 0) (sym (take_all size (by_rows m l a) (omega (arith, rows_length))))
+    sym (take-append-drop (m * l) xs)
+    ∙ ap (λ ys. take (m * l) xs ++ ys) rest
+    ∙ front_all size m l a (take (m * l) xs) fits (length-take (m * l) xs ∙ omega (arith, filled.long)) (λ k h. get_or-take (m * l) xs k 0 h ∙ filled.below k (omega arith))
   where
-    rows_length : length (by_rows m l a) ≡ m * l
-    rows_length = length-map-range_with_len (λ k. a (k / l) (k % l)) 0 (m * l)
-
-    whole_length : length (by_rows m l a ++ replicate (size - length (by_rows m l a)) 0) ≡ size
-    whole_length = length-append (by_rows m l a) (replicate (size - length (by_rows m l a)) 0) ∙ rw (length-replicate, rows_length) (omega arith)
-
-    at : (k : ℕ) → get_or (by_rows m l a ++ replicate (size - length (by_rows m l a)) 0) k 0 ≡ get_or xs k 0
-    at k = elim (dec_lt k (m * l)) [
-      | yes h ↦
-          get_or_append_left (by_rows m l a) (replicate (size - length (by_rows m l a)) 0) 0 k (omega (arith, rows_length))
-          ∙ get_or-map-range_with_len (λ k. a (k / l) (k % l)) 0 (m * l) k k 0 h (omega arith)
-          ∙ sym (filled.below k (omega arith))
-      | no h ↦
-          get_or-append_right (by_rows m l a) (replicate (size - length (by_rows m l a)) 0) (m * l) k 0 rows_length (omega arith)
-          ∙ get_or_same (size - length (by_rows m l a)) (k - m * l) 0
-          ∙ sym (filled.above k (omega arith))
-    ]
+    rest : drop (m * l) xs ≡ drop (m * l) (replicate {A = ℕ} size 0)
+    rest =
+        fill_by_all (λ k. 0) (drop (m * l) xs) (size - m * l) 0 (rw length-drop (omega (arith, filled.long))) (λ k h. get_or-drop (m * l) xs k 0 ∙ filled.above (m * l + k) (omega arith))
+        ∙ sym (fill_by_all (λ k. 0) (drop (m * l) (replicate {A = ℕ} size 0)) (size - m * l) 0 (rw (length-drop, length-replicate) (omega arith)) (λ k h. get_or-drop (m * l) (replicate {A = ℕ} size 0) k 0 ∙ get_or_same size (m * l + k) 0))
 
 -- ---- a list of which one part was written
 
@@ -101,6 +107,26 @@ module _ {X : Type 0} (a k : ℕ) (xs ys : List X) (d : X) (fits : a + k ≤ len
       ∙ get_or-drop k (drop a xs) (i - a - k) d
       ∙ get_or-drop a xs (k + (i - a - k)) d
       ∙ ap (λ i. get_or xs i d) (omega arith)
+
+-- what holds of each element holds of each of a part
+pub between_each : {X : Type 0} (P : X → Type 0) (a e : ℕ) (xs : List X) (d : X) → e ≤ length xs → P d → ((i : ℕ) → P (get_or xs (a + i) d)) → (i : ℕ) → P (get_or (between a e xs) i d)
+between_each P a e xs d fits zero at i = elim (dec_lt (a + i) e) [
+  | yes h ↦ subst P (sym (get_or-between xs a e i d h)) (at i)
+  | no h ↦ subst P (sym (get_or_past (between a e xs) i d (omega (arith, length-between xs a e fits)))) zero
+]
+
+-- what holds of each element of both holds of each element of the list that they make
+pub put_each : {X : Type 0} (P : X → Type 0) (a k : ℕ) (xs ys : List X) (d : X) → a + k ≤ length xs → length ys ≡ k
+    → ((i : ℕ) → P (get_or xs i d)) → ((i : ℕ) → P (get_or ys i d)) → (i : ℕ) → P (get_or (put_mid a k xs ys) i d)
+put_each P a k xs ys d fits long here there i = elim (dec_lt i a) [
+  | yes h ↦ subst P (sym (put_below a k xs ys d fits long i h)) (here i)
+  | no h ↦ elim (dec_lt i (a + k)) [
+    | yes m ↦
+        let at : a + (i - a) ≡ i = omega arith in
+        subst (λ j. P (get_or (put_mid a k xs ys) j d)) at (subst P (sym (put_inside a k xs ys d fits long (i - a) (omega arith))) (there (i - a)))
+    | no m ↦ subst P (sym (put_above a k xs ys d fits long i (omega arith))) (here i)
+  ]
+]
 
 -- the step of a loop that writes rows of l places one after another: the rows above i are those of f, and now row i is too
 pub row_put : {X : Type 0} (d : X) (l i : ℕ) (xs ys : List X) (f : ℕ → ℕ → X) → i * l + l ≤ length xs → length ys ≡ i * l + l - i * l

@@ -1,5 +1,5 @@
 -- Rows that are read one after another from a source. Assumes nothing.
-use Rattle.std.proofs.Common.{◌≡◌, ℕ, ◌+◌, ◌<◌, Bool, true, false, cond, ltb, List, Some, None, Ok, Err, Option, Result, sym, refl, ap, ◌∙◌, arith}
+use Rattle.std.proofs.Common.{◌≡◌, ℕ, ◌+◌, ◌<◌, Bool, true, false, cond, get_or, ltb, List, Some, None, Ok, Err, Option, Result, sym, refl, ap, ◌∙◌, arith}
 use Rattle.matrix.specs.Matrices as matrices
 use Rattle.matrix.specs.Matrices.{Matrices}
 use Rattle.matrix.specs.Replies.{Turn, column_reply}
@@ -38,6 +38,11 @@ module _ {S : Type 0} (meaning : S → Matrices) (turned : S → Option matrices
     unread = λ e. absurd (omega arith);
     known = λ h. ap (λ (m : Matrices). m.known seed) (sym walked.kept) ∙ granted ((meaning during).known seed) (ltb i (meaning during).side) (sym turn.answer ∙ ok);
   }
+
+-- a row that was read is that row of the matrix
+pub row_entries : {S : Type 0} (meaning : S → Matrices) (seed : List ℕ) (i n : ℕ) (before during : S) (row : List ℕ) → Walked meaning seed i before during
+    → ((j : ℕ) → j < n → get_or row j 0 ≡ (meaning during).entry seed i j) → (j : ℕ) → j < n → get_or row j 0 ≡ (meaning before).entry seed i j
+row_entries meaning seed i n before during row walked read j h = read j h ∙ ap (λ (m : Matrices). m.entry seed i j) walked.kept
 
 pub walked_none : {S : Type 0} (meaning : S → Matrices) (seed : List ℕ) (s : S) → Walked meaning seed 0 s s
 walked_none meaning seed s = record { kept = refl; unread = λ _. refl; known = λ h. absurd (omega arith) }

@@ -1,5 +1,5 @@
 -- What the loops over the rows of the public matrix come to, and what they answer. Assumes nothing.
-use Rattle.std.proofs.Common.{◌≡◌, ℕ, ◌+◌, ◌*◌, ◌/◌, ◌%◌, ◌<◌, List, length, get_or, ℤ, pos, ◌+ℤ◌, ◌*ℤ◌, Ok, sym, ap, ◌∙◌, arith, eq-eqb}
+use Rattle.std.proofs.Common.{◌≡◌, ℕ, ◌+◌, ◌*◌, ◌/◌, ◌%◌, ◌<◌, List, get_or, ℤ, pos, ◌+ℤ◌, ◌*ℤ◌, Ok, sym, ap, ◌∙◌, arith, eq-eqb}
 use Rattle.std.proofs.lemmas.Nat.{div-mul-add, mod-mul-add}
 use Rattle.consensus.specs.Arithmetic.{residue}
 use Rattle.matrix.specs.Matrices.{Matrices}
@@ -11,14 +11,14 @@ use Rattle.lwe.proofs.Places.{by_rows_same}
 use Rattle.lwe.proofs.Rows.{Walked}
 
 -- entry k of row i of Y1, from that row of the public matrix
-pub image_entry : (q n l i k : ℕ) (a : Residues) (X E : Matrix) (row : List ℕ) (columns noise : List ℤ) → length row ≡ n → k < l
+pub image_entry : (q n l i k : ℕ) (a : Residues) (X E : Matrix) (row : List ℕ) (columns noise : List ℤ) → k < l
     → ((r : ℕ) → r < n → get_or row r 0 ≡ a i r) → ((c : ℕ) → c < l → (r : ℕ) → r < n → signed n columns c r ≡ X r c) → get_or noise k (pos 0) ≡ E i k
-    → residue (sum (length row) (λ r. pos (get_or row r 0) *ℤ signed (length row) columns k r) +ℤ get_or noise k (pos 0)) q ≡ Y1 q n (whole a) X E ((i * l + k) / l) ((i * l + k) % l)
-image_entry q n l i k a X E row columns noise long h entries secret noisy =
+    → residue (sum n (λ r. pos (get_or row r 0) *ℤ signed n columns k r) +ℤ get_or noise k (pos 0)) q ≡ Y1 q n (whole a) X E ((i * l + k) / l) ((i * l + k) % l)
+image_entry q n l i k a X E row columns noise h entries secret noisy =
     let at_row = div-mul-add i l k h in
     let at_column = mod-mul-add i l k h in
     let products = sum_same n (λ r. pos (get_or row r 0) *ℤ signed n columns k r) (λ r. pos (a i r) *ℤ X r k) (λ r m. rw (entries r m, secret k h r m)) in
-    rw (long, products, noisy) (sym (ap (λ t. Y1 q n (whole a) X E t ((i * l + k) % l)) at_row ∙ ap (Y1 q n (whole a) X E i) at_column))
+    rw (products, noisy) (sym (ap (λ t. Y1 q n (whole a) X E t ((i * l + k) % l)) at_row ∙ ap (Y1 q n (whole a) X E i) at_column))
 
 -- one more row of the public matrix in the sums of Y2
 pub sums_entry : (i c j : ℕ) (a : Residues) (X : Matrix) (entry : ℕ) (was now factor : ℤ)

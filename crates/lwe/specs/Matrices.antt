@@ -1,6 +1,6 @@
 -- Matrices of whole numbers: sums, products, remainders, and how a list holds one. Assumes nothing.
 -- A matrix is a function of the row and the column, both counted from 0.
-use Rattle.std.specs.Prelude.{ℕ, zero, suc, ◌+◌, ◌-◌, ◌*◌, ◌/◌, ◌%◌, List, ◌++◌, map, length, take, replicate, ℤ, pos, ◌+ℤ◌, ◌*ℤ◌, slice_index, slice_index_or}
+use Rattle.std.specs.Prelude.{ℕ, zero, suc, ◌+◌, ◌-◌, ◌*◌, ◌/◌, ◌%◌, ◌≤◌, List, ◌++◌, map, length, take, replicate, ℤ, pos, ◌+ℤ◌, ◌*ℤ◌, slice_index, slice_index_or, unsigned_abs}
 use Rattle.std.specs.List.{range_with_len}
 use Rattle.consensus.specs.Arithmetic.{residue}
 
@@ -39,6 +39,10 @@ signed l xs i j = slice_index_or xs (i * l + j) (pos 0)
 
 abbrev pub plain : ℕ → List ℕ → Matrix
 plain l xs i j = pos (slice_index xs (i * l + j))
+
+-- no number of a list is larger than b, either way
+abbrev pub Within : ℕ → List ℤ → Type 0
+Within b xs = (k : ℕ) → unsigned_abs (slice_index_or xs k (pos 0)) ≤ b
 
 -- a matrix of m rows and l columns, row by row
 abbrev pub by_rows : ℕ → ℕ → Residues → List ℕ

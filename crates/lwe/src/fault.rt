@@ -1,7 +1,8 @@
 // Why a call of this crate is refused.
-ghost use Rattle.std.specs.Prelude.{◌≡◌, Some};
+ghost use Rattle.std.specs.Prelude.{Some};
 ghost use Rattle.lwe.specs.Faults.{number, place, words};
 
+use refusal::{Fault, Refusal};
 use std::error::Error;
 use std::fmt;
 
@@ -13,30 +14,17 @@ pub enum LweFault {
     Place,
 }
 
-impl LweFault {
-    pub fn number(&self) -> u8
-        ensures { result ≡ number self.now }
-    {
-        match self {
-            LweFault::Sizes => 1,
-            LweFault::Place => 8,
-        }
-    }
+impl Fault for LweFault {
+    ghost number_of = { number };
 
-    // These refusals all stand at place 0.
-    pub fn place(&self) -> usize
-        ensures { result ≡ place self.now }
-    {
-        0
-    }
+    ghost place_of = { place };
 
-    // What is wrong, in words.
-    pub fn words(&self) -> &'static str
-        ensures { result.now ≡ words self.now }
-    {
+    ghost words_of = { words };
+
+    fn refusal(&self) -> Refusal {
         match self {
-            LweFault::Sizes => "a size of the exchange is outside its limits",
-            LweFault::Place => "a place is out of range",
+            LweFault::Sizes => Refusal::new(1, "a size of the exchange is outside its limits"),
+            LweFault::Place => Refusal::new(8, "a place is out of range"),
         }
     }
 }
@@ -45,7 +33,7 @@ impl fmt::Display for LweFault {
     ghost output = { λ fault. Some (words fault) };
 
     fn fmt<W: fmt::Write>(&self, f: &mut fmt::Formatter<W>) -> fmt::Result {
-        write!(f, "{}", self.words())
+        f.write_str(self.words())
     }
 }
 

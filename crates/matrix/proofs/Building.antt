@@ -1,5 +1,5 @@
 -- Which numbers make an expanding source. Assumes nothing.
-use Rattle.std.proofs.Common.{◌≡◌, ℕ, zero, suc, ◌^◌, ◌≤◌, Bool, true, false, cond, ◌&&◌, ◌||◌, eqb, leb, Ok, Err, sym, refl, ap, ◌∙◌, arith}
+use Rattle.std.proofs.Common.{◌≡◌, ℕ, zero, suc, ◌^◌, ◌<◌, ◌≤◌, ◌≢◌, Bool, true, false, cond, ◌&&◌, ◌||◌, eqb, leb, Option, Some, None, MatchOption, Ok, Err, subst, sym, refl, ap, ◌∙◌, arith}
 use native.Mathlib.Decide.{ℕ_discrete}
 use Rattle.std.proofs.lemmas.Bool.{eq-eqb, ne_eqb, le-leb}
 use Rattle.matrix.specs.Expansion.{power_of_two, fits_expansion, expansion, expansion_built}
@@ -34,3 +34,22 @@ granted n k low high some few =
 pub refused : (n q : ℕ) → 1 ≤ n → n ≤ 1024 → ((k : ℕ) → 1 ≤ k → k ≤ 15 → q ≡ 2 ^ k → ⊥) → Err Shape ≡ expansion_built n q
 refused n q low high none =
     sym (ap (λ (b : Bool). cond b (Ok (expansion n q)) (Err Shape)) (fits_is n q false low high (power_none 15 q none)))
+
+-- ---- the exponent of a power of two
+
+abbrev pub IsExponent : (q : ℕ) → Option ℕ → Type 0
+IsExponent q r = MatchOption r ((k : ℕ) → 1 ≤ k → k ≤ 15 → q ≢ 2 ^ k) (λ k. (1 ≤ k) × (k ≤ 15) × (q ≡ 2 ^ k))
+
+-- from what `find` says of the numbers from 1 to 15
+pub exponent_found : (q : ℕ) (r : Option ℕ)
+    → MatchOption r ((k : ℕ) → 1 ≤ k → k < 16 → q ≡ 2 ^ k → ⊥) (λ i. (1 ≤ i) × (i < 16) × (q ≡ 2 ^ i) × ((k : ℕ) → 1 ≤ k → k < i → q ≡ 2 ^ k → ⊥))
+    → IsExponent q r
+exponent_found q None none = λ k low high. none k low (omega arith)
+exponent_found q (Some k) found = (found.0, omega (arith, found.1), found.2)
+
+pub built : (n q k : ℕ) (r : Option ℕ) → 1 ≤ n → n ≤ 1024 → r ≡ Some k → IsExponent q r → Ok (expansion n (2 ^ k)) ≡ expansion_built n q
+built n q k r low high e h =
+    let (some, few, is) = subst (IsExponent q) e h in rw is (granted n k low high some few)
+
+pub not_built : (n q : ℕ) (r : Option ℕ) → 1 ≤ n → n ≤ 1024 → r ≡ None → IsExponent q r → Err Shape ≡ expansion_built n q
+not_built n q r low high e h = refused n q low high (subst (IsExponent q) e h)

@@ -1,4 +1,3 @@
 pub mod Building
 pub mod Entries
 pub mod Powers
-pub mod Seeds

@@ -1,5 +1,5 @@
 -- The matrices that seeds are expanded to. Assumes nothing.
-use Rattle.std.specs.Prelude.{ℕ, zero, suc, ◌+◌, ◌*◌, ◌/◌, ◌%◌, ◌^◌, Bool, true, false, cond, ◌&&◌, ◌||◌, List, ◌∷◌, map, replicate, Some, None, Ok, Err, Option, Result, ◌==◌, nat_le, slice_index}
+use Rattle.std.specs.Prelude.{ℕ, zero, suc, ◌+◌, ◌*◌, ◌/◌, ◌%◌, ◌^◌, Bool, true, false, cond, ◌&&◌, ◌||◌, List, ◌∷◌, map, Ok, Err, Result, ◌==◌, nat_le, slice_index}
 use Rattle.std.specs.List.{range_with_len}
 use Rattle.keccak.specs.Sponge.{shake128}
 use Rattle.matrix.specs.Matrices.{Matrices}
@@ -38,7 +38,6 @@ fits_expansion n q = nat_le 1 n && nat_le n 1024 && power_of_two 15 q
 abbrev pub expansion_built : (n q : ℕ) → Result Matrices SourceFault
 expansion_built n q = cond (fits_expansion n q) (Ok (expansion n q)) (Err Shape)
 
--- the entries that are held: those of the row turned to, and zeros before any turn
-abbrev pub held : (n q : ℕ) → List ℕ → Option ℕ → List ℕ
-held n q seed None = replicate n 0
-held n q seed (Some i) = map (entry_at q (row_bytes n seed i)) (range_with_len 0 n)
+-- the n entries of row i of a seed
+abbrev pub row_entries : (n q : ℕ) (seed : List ℕ) (i : ℕ) → List ℕ
+row_entries n q seed i = map (entry_at q (row_bytes n seed i)) (range_with_len 0 n)

@@ -1,5 +1,5 @@
 -- The matrix of a table: one seed, and its numbers row by row. Assumes nothing.
-use Rattle.std.specs.Prelude.{ℕ, ◌+◌, ◌*◌, ◌%◌, min, max, Bool, cond, ◌&&◌, List, length, Ok, Err, Option, Result, ◌==◌, nat_le, slice_index}
+use Rattle.std.specs.Prelude.{ℕ, ◌+◌, ◌*◌, ◌%◌, Bool, cond, ◌&&◌, List, length, Ok, Err, Option, Result, ◌==◌, nat_le, slice_index}
 use Rattle.std.proofs.Common.{mod-lt, arith}
 use Rattle.std.specs.Str.{bytes_eq}
 use Rattle.matrix.specs.Matrices.{Matrices, Sound, Row}
@@ -24,16 +24,15 @@ fits_table n q count = nat_le 1 n && nat_le n 1024 && nat_le 2 q && nat_le q 327
 abbrev pub table_built : (n q : ℕ) (seed numbers : List ℕ) → Result Matrices SourceFault
 table_built n q seed numbers = cond (fits_table n q (length numbers)) (Ok (table n q seed numbers)) (Err Shape)
 
--- What a `TableSource` means. A side and a modulus outside their limits, which `new` never lets in, are read as the nearest
--- within them, so that every value is sound.
+-- what a `TableSource` means
 abbrev pub table_of : TableSource → Matrices
-table_of t = table (max 1 (min t.n 1024)) (max 2 (min t.q 32768)) t.seed t.numbers.now
+table_of t = table t.n t.q t.seed t.numbers.now
 
 pub table_sound : (t : TableSource) → Sound (table_of t)
 table_sound t = record {
-  side = (omega arith, omega arith);
-  modulus = (omega arith, omega arith);
-  below = λ seed i j known hi hj. mod-lt _ (omega arith);
+  side = t.side;
+  modulus = t.modulus;
+  below = λ seed i j known hi hj. mod-lt _ (omega (arith, t.modulus.0));
 }
 
 -- the row that it is turned to

@@ -1,19 +1,24 @@
 // The expanding source: every seed is known, and each row is expanded from the seed and the row's number.
-ghost use Rattle.std.specs.Prelude.{◌≡◌, ◌^◌, ◌≤◌, take};
-ghost use Rattle.matrix.specs.Expansion.{held};
+ghost use Rattle.std.specs.Prelude.{◌≡◌, ◌^◌, take, IfSome};
+ghost use Rattle.std.proofs.Props.{props};
+ghost use Rattle.matrix.specs.Expansion.{row_entries};
+
+use crate::expansion::Shape;
 
 mod methods;
 
 #[derive(Drop)]
-pub struct ExpandingSource {
-    n: usize,
-    // The modulus is 2 to the power of `bits`.
-    bits: u32,
+struct ExpandedRow {
     seed: [u8; 32],
-    row: Option<u16>,
-    // The first n are those of the row that it is turned to.
+    number: u16,
+    // As many as the side, and then zeros: there is no heap.
     entries: [u16; 1024],
-    ghost side: { (1 ≤ n) × (n ≤ 1024) },
-    ghost power: { (1 ≤ bits) × (bits ≤ 15) },
-    ghost expanded: { take n entries ≡ held n (2 ^ bits) seed row },
+}
+
+#[derive(Drop)]
+pub struct ExpandingSource {
+    shape: Shape,
+    // The row that it is turned to.
+    row: Option<ExpandedRow>,
+    ghost expanded: { IfSome row (λ r. take shape.n r.entries ≡ row_entries shape.n (2 ^ shape.bits) r.seed r.number) } by { Prim.hlevel props },
 }

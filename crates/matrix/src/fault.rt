@@ -1,7 +1,8 @@
 // Why a matrix source refused a call.
-ghost use Rattle.std.specs.Prelude.{◌≡◌, Some};
+ghost use Rattle.std.specs.Prelude.{Some};
 ghost use Rattle.matrix.specs.Faults.{number, place, words};
 
+use refusal::{Fault, Refusal};
 use std::error::Error;
 use std::fmt;
 
@@ -19,37 +20,23 @@ pub enum SourceFault {
     UnknownSeed,
 }
 
-impl SourceFault {
-    pub fn number(&self) -> u8
-        ensures { result ≡ number self.now }
-    {
-        match self {
-            SourceFault::Shape => 3,
-            SourceFault::NotTurned => 6,
-            SourceFault::Row => 8,
-            SourceFault::Column => 8,
-            SourceFault::UnknownSeed => 14,
-        }
-    }
+impl Fault for SourceFault {
+    ghost number_of = { number };
 
-    // A source's refusals all stand at place 0.
-    pub fn place(&self) -> usize
-        ensures { result ≡ place self.now }
-    {
-        0
-    }
+    ghost place_of = { place };
 
-    // What is wrong, in words.
-    pub fn words(&self) -> &'static str
-        ensures { result.now ≡ words self.now }
-    {
+    ghost words_of = { words };
+
+    fn refusal(&self) -> Refusal {
         match self {
-            SourceFault::Shape =>
+            SourceFault::Shape => Refusal::new(
+                3,
                 "the side, the modulus or the numbers do not make a matrix source",
-            SourceFault::NotTurned => "a column is read before any turn",
-            SourceFault::Row => "a row is out of range",
-            SourceFault::Column => "a column is out of range",
-            SourceFault::UnknownSeed => "the source does not know the seed",
+            ),
+            SourceFault::NotTurned => Refusal::new(6, "a column is read before any turn"),
+            SourceFault::Row => Refusal::new(8, "a row is out of range"),
+            SourceFault::Column => Refusal::new(8, "a column is out of range"),
+            SourceFault::UnknownSeed => Refusal::new(14, "the source does not know the seed"),
         }
     }
 }
@@ -58,7 +45,7 @@ impl fmt::Display for SourceFault {
     ghost output = { λ fault. Some (words fault) };
 
     fn fmt<W: fmt::Write>(&self, f: &mut fmt::Formatter<W>) -> fmt::Result {
-        write!(f, "{}", self.words())
+        f.write_str(self.words())
     }
 }
 

@@ -11,9 +11,6 @@ pub trait MatrixSource {
     // The row that it is turned to, if any.
     ghost turned: { Self → Option Row };
 
-    // What every source keeps.
-    ghost sound: { (s : Self) → Sound (meaning s) };
-
     // n: the matrices have n rows and n columns.
     fn side(&self) -> usize
         ensures { result ≡ (meaning self.now).side };
@@ -29,4 +26,7 @@ pub trait MatrixSource {
     // The entry in a column of the row that it is turned to.
     fn column(&self, j: usize) -> Result<u16, SourceFault>
         ensures { result ≡ column_reply (meaning self.now) (turned self.now) j };
+
+    // What every source keeps.
+    ghost sound: { (s : Self) → Sound (meaning s) };
 }

@@ -1,16 +1,18 @@
 -- One test of a law, which all laws of the table pass, and what follows from it. Assumes nothing.
-use Rattle.std.proofs.Common.{◌≡◌, ℕ, zero, suc, ◌+◌, ◌-◌, ◌*◌, ◌%◌, ◌^◌, ◌<◌, ◌≤◌, Bool, true, cond, ◌&&◌, eqb, leb, List, [], ◌∷◌, map, length, get_or, replicate, ℤ, pos, negsuc, Ok, Err, count_by, sym, refl, ap, ◌∙◌, subst, ap₂, not-suc-le-zero, add-zero, mod-eq_of_lt, one-mul, zero-add, arith, pow_mono}
+use Rattle.std.proofs.Common.{◌≡◌, ℕ, suc, ◌+◌, ◌*◌, ◌%◌, ◌^◌, ◌<◌, ◌≤◌, Bool, true, ◌&&◌, eqb, leb, List, [], ◌∷◌, map, length, get_or, ℤ, pos, negsuc, Ok, Err, count_by, sym, refl, ap, ◌∙◌, subst, not-suc-le-zero, mod-eq_of_lt, one-mul, zero-add, arith, pow_mono, lit≤}
 use Rattle.std.specs.List.{range_with_len, AllByRecursion}
 use Rattle.std.proofs.lemmas.List.FromFn.{get_or-range_with_len, length-range_with_len}
 use Rattle.std.proofs.ByRecursion.{All-get_or, All-weaker}
-use Rattle.std.proofs.lemmas.List.Sums.{sum_by-cons, sum_by-append, count_by-le-length}
-use Rattle.std.proofs.lemmas.Bool.{and_parts, eqb-true, leb-true, lt-leb, cond_above, cond_below}
+use Rattle.std.proofs.lemmas.List.Sums.{count_by-le-length}
+use Rattle.std.proofs.lemmas.Bool.{and_parts, eqb-true, leb-true, cond_above, cond_below}
 use Rattle.std.proofs.lemmas.Nat.{pow_below}
 use Rattle.noise.specs.Bounds.{starts, bounds, bounds_of, index_of, value_at}
 use Rattle.noise.specs.Laws.{Share, Law, of_width, laws, law_of, width_of, value_of, found}
-use Rattle.noise.specs.Replies.{value_reply}
+use Rattle.noise.specs.Replies.{number_of, value_reply}
 use Rattle.noise.specs.Tables.{same, words_to, Holds}
 use Rattle.noise.specs.declared.fault.NoiseFault.TheVariants.{Word}
+use Rattle.noise.specs.declared.law.NoiseLaw.{NoiseLaw}
+use Rattle.noise.specs.declared.law.NoiseLaw.TheVariants.{Zero, One, Two, Three, Four, Five}
 use Rattle.noise.proofs.Shares.{total, weight, words_met, among, place}
 
 every : {X : Type 0} → (X → Bool) → List X → Bool
@@ -39,18 +41,18 @@ distinct shares = every (λ s. eqb (weight shares s.value) s.count) shares
 in_order : List Share → Bool
 in_order shares = every (λ k. same (get_or (values shares) k (pos 0)) (value_at k)) (range_with_len 0 (length shares))
 
--- the last two: the code's shifts and its bounds fit
+-- the last two: the code's shifts and its counts fit
 passes : Law → Bool
 passes law =
     eqb (total law.shares) (2 ^ law.width)
-    && (distinct law.shares && (in_order law.shares && (leb law.width 16 && eqb (length (bounds law.shares)) 10)))
+    && (distinct law.shares && (in_order law.shares && (leb law.width 16 && leb (length (bounds law.shares)) 10)))
 
 record Passed (law : Law) : Type 0 where
   whole : total law.shares ≡ 2 ^ law.width
   apart : distinct law.shares ≡ true
   ordered : in_order law.shares ≡ true
   short : law.width ≤ 16
-  ten : length (bounds law.shares) ≡ 10
+  few : length (bounds law.shares) ≤ 10
 
 passed : (law : Law) → passes law ≡ true → Passed law
 unfolding passes
@@ -58,17 +60,17 @@ passed law e =
     let shares = law.shares in
     let whole = eqb (total shares) (2 ^ law.width) in
     let short = leb law.width 16 in
-    let ten = eqb (length (bounds shares)) 10 in
-    let p = and_parts whole (distinct shares && (in_order shares && (short && ten))) e in
-    let q = and_parts (distinct shares) (in_order shares && (short && ten)) p.1 in
-    let r = and_parts (in_order shares) (short && ten) q.1 in
-    let s = and_parts short ten r.1 in
+    let few = leb (length (bounds shares)) 10 in
+    let p = and_parts whole (distinct shares && (in_order shares && (short && few))) e in
+    let q = and_parts (distinct shares) (in_order shares && (short && few)) p.1 in
+    let r = and_parts (in_order shares) (short && few) q.1 in
+    let s = and_parts short few r.1 in
     record {
       whole = eqb-true (total shares) (2 ^ law.width) p.0;
       apart = q.0;
       ordered = r.0;
       short = leb-true law.width 16 s.0;
-      ten = eqb-true (length (bounds shares)) 10 s.1;
+      few = leb-true (length (bounds shares)) 10 s.1;
     }
 
 -- the one test of the table
@@ -118,25 +120,16 @@ length_starts : (first : ℕ) (shares : List Share) → length (starts first sha
 length_starts first [] = refl
 length_starts first (s ∷ shares) = ap suc (length_starts (first + s.count) shares)
 
--- a word reaches no bound above it
-unreached : (k n word : ℕ) → word < n → count_by (λ b. leb b word) (replicate k n) ≡ 0
-unreached zero n word h = refl
-unreached (suc k) n word h =
-    sum_by-cons (λ b. cond (leb b word) 1 0) n (replicate k n) ∙ ap₂ ◌+◌ (ap (λ b. cond b 1 0) (lt-leb n word h)) (unreached k n word h)
-
 -- the bounds that a word has reached lead to its value
-by_place : (shares : List Share) (word : ℕ) → in_order shares ≡ true → word < total shares → word < 65536
+by_place : (shares : List Share) (word : ℕ) → in_order shares ≡ true → word < total shares
     → value_at (count_by (λ b. leb b word) (bounds shares)) ≡ found shares word
 unfolding values
-by_place [] word e h fits = absurd (not-suc-le-zero h)
-by_place (s ∷ shares) word e h fits =
+by_place [] word e h = absurd (not-suc-le-zero h)
+by_place (s ∷ shares) word e h =
     let firsts = starts (0 + s.count) shares in
     let reached = count_by (λ b. leb b word) firsts in
     let few : reached < length (s ∷ shares) = omega (arith, count_by-le-length (λ b. leb b word) firsts, length_starts (0 + s.count) shares) in
-    ap value_at
-    (sum_by-append (λ b. cond (leb b word) 1 0) firsts (replicate (10 - length firsts) 65536)
-    ∙ ap (λ k. reached + k) (unreached (10 - length firsts) 65536 word fits) ∙ add-zero reached)
-    ∙ sym (in_place (s ∷ shares) e reached few)
+    sym (in_place (s ∷ shares) e reached few)
     ∙ sym (place s shares 0 word (omega arith) (omega arith))
     ∙ ap (found (s ∷ shares)) (omega arith)
 
@@ -149,28 +142,32 @@ width_short number h = (law_passed number h).short
 pub words_end : (number : ℕ) → number ≤ 5 → 2 ^ width_of number ≤ 65536
 words_end number h = pow_mono (width_short number h)
 
-pub ten_bounds : (number : ℕ) → number ≤ 5 → length (bounds_of number) ≡ 10
-ten_bounds number h = (law_passed number h).ten
+pub number_small : (law : NoiseLaw) → number_of law ≤ 5
+number_small Zero = lit≤ tt
+number_small One = lit≤ tt
+number_small Two = lit≤ tt
+number_small Three = lit≤ tt
+number_small Four = lit≤ tt
+number_small Five = lit≤ tt
 
-pub index_small : (number word : ℕ) → number ≤ 5 → index_of number word ≤ 10
-index_small number word h = omega (arith, ten_bounds number h, count_by-le-length (λ b. leb b word) (bounds_of number))
+few_bounds : (law : NoiseLaw) → length (bounds_of (number_of law)) ≤ 10
+few_bounds law = (law_passed (number_of law) (number_small law)).few
+
+pub index_small : (law : NoiseLaw) (word : ℕ) → index_of (number_of law) word ≤ 10
+index_small law word = omega (arith, few_bounds law, count_by-le-length (λ b. leb b word) (bounds_of (number_of law)))
 
 -- `1 << width`
-shifted : (width : ℕ) → width ≤ 16 → 1 * 2 ^ width % 4294967296 ≡ 2 ^ width
+pub shifted : (width : ℕ) → width ≤ 16 → 1 * 2 ^ width % 4294967296 ≡ 2 ^ width
 shifted width h = ap (λ n. n % 4294967296) (one-mul (2 ^ width)) ∙ mod-eq_of_lt (pow_below width 32 (omega arith))
 
-pub refused : (number width word : ℕ) → number ≤ 5 → width ≡ width_of number → 1 * 2 ^ width % 4294967296 ≤ word
-    → Err Word ≡ value_reply number word
-refused number width word h e l =
-    let s = shifted (width_of number) (width_short number h) in
-    cond_above word (2 ^ width_of number) (Ok (value_of number word)) (Err Word) (Err Word)
-    (rw s at (rw e at l)) refl
+pub refused : (law : NoiseLaw) (word : ℕ) → 2 ^ width_of (number_of law) ≤ word → Err Word ≡ value_reply (number_of law) word
+refused law word l =
+    let number = number_of law in
+    cond_above word (2 ^ width_of number) (Ok (value_of number word)) (Err Word) (Err Word) l refl
 
-pub valued : (number width word index : ℕ) (value : ℤ) → number ≤ 5 → width ≡ width_of number → word < 1 * 2 ^ width % 4294967296 → word < 65536
-    → index ≡ index_of number word → value ≡ value_at index → Ok value ≡ value_reply number word
-valued number width word index value h e l fits i v =
-    let p = law_passed number h in
-    let s = shifted (width_of number) p.short in
-    let below : word < 2 ^ width_of number = rw s at (rw e at l) in
-    ap Ok (v ∙ ap value_at i ∙ by_place (law_of number).shares word p.ordered (rw p.whole below) fits)
+pub valued : (law : NoiseLaw) (word index : ℕ) (value : ℤ) → word < 2 ^ width_of (number_of law) → index ≡ index_of (number_of law) word → value ≡ value_at index → Ok value ≡ value_reply (number_of law) word
+valued law word index value below i v =
+    let number = number_of law in
+    let p = law_passed number (number_small law) in
+    ap Ok (v ∙ ap value_at i ∙ by_place (law_of number).shares word p.ordered (rw p.whole below))
     ∙ cond_below word (2 ^ width_of number) (Ok (value_of number word)) (Err Word) below

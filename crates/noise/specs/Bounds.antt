@@ -1,5 +1,5 @@
 -- A share by its place in the law. Assumes nothing.
-use Rattle.std.specs.Prelude.{ℕ, ◌+◌, ◌-◌, ◌*◌, ◌/◌, ◌%◌, List, [], ◌∷◌, ◌++◌, length, drop, replicate, ℤ, pos, ◌-ℤ◌, ◌*ℤ◌, count_by, nat_le}
+use Rattle.std.specs.Prelude.{ℕ, ◌+◌, ◌*◌, ◌/◌, ◌%◌, List, [], ◌∷◌, drop, ℤ, pos, ◌-ℤ◌, ◌*ℤ◌, count_by, nat_le}
 use Rattle.noise.specs.Laws.{Share, law_of}
 
 -- the first word of each share, where the first share begins at a word
@@ -7,13 +7,9 @@ abbrev pub starts : ℕ → List Share → List ℕ
 starts first [] = []
 starts first (s ∷ shares) = first ∷ starts (first + s.count) shares
 
--- ten numbers; those that are missing are 2 ^ 16, which no word reaches
-abbrev pub ten : List ℕ → List ℕ
-ten ns = ns ++ replicate (10 - length ns) 65536
-
 -- the words at which the next share begins
 abbrev pub bounds : List Share → List ℕ
-bounds shares = ten (drop 1 (starts 0 shares))
+bounds shares = drop 1 (starts 0 shares)
 
 abbrev pub bounds_of : ℕ → List ℕ
 bounds_of number = bounds (law_of number).shares

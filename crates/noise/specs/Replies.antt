@@ -4,9 +4,15 @@ use Rattle.noise.specs.Laws.{width_of, value_of}
 use Rattle.noise.specs.declared.fault.NoiseFault.{NoiseFault}
 use Rattle.noise.specs.declared.fault.NoiseFault.TheVariants.{Law, Word}
 use Rattle.noise.specs.declared.law.NoiseLaw.{NoiseLaw}
+use Rattle.noise.specs.declared.law.NoiseLaw.TheVariants.{Zero, One, Two, Three, Four, Five}
 
 abbrev pub number_of : NoiseLaw → ℕ
-number_of law = law.number
+number_of Zero = 0
+number_of One = 1
+number_of Two = 2
+number_of Three = 3
+number_of Four = 4
+number_of Five = 5
 
 -- the number of the law that is built
 abbrev pub law_reply : ℕ → Result ℕ NoiseFault

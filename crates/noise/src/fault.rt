@@ -1,7 +1,8 @@
 // Why a noise law refused a call.
-ghost use Rattle.std.specs.Prelude.{◌≡◌, Some};
+ghost use Rattle.std.specs.Prelude.{Some};
 ghost use Rattle.noise.specs.Faults.{number, place, words};
 
+use refusal::{Fault, Refusal};
 use std::error::Error;
 use std::fmt;
 
@@ -13,30 +14,18 @@ pub enum NoiseFault {
     Word,
 }
 
-impl NoiseFault {
-    pub fn number(&self) -> u8
-        ensures { result ≡ number self.now }
-    {
-        match self {
-            NoiseFault::Law => 1,
-            NoiseFault::Word => 5,
-        }
-    }
+impl Fault for NoiseFault {
+    ghost number_of = { number };
+
+    ghost place_of = { place };
+
+    ghost words_of = { words };
 
     // A law's refusals all stand at place 0.
-    pub fn place(&self) -> usize
-        ensures { result ≡ place self.now }
-    {
-        0
-    }
-
-    // What is wrong, in words.
-    pub fn words(&self) -> &'static str
-        ensures { result.now ≡ words self.now }
-    {
+    fn refusal(&self) -> Refusal {
         match self {
-            NoiseFault::Law => "no noise law has the number",
-            NoiseFault::Word => "a noise word is out of range",
+            NoiseFault::Law => Refusal::new(1, "no noise law has the number"),
+            NoiseFault::Word => Refusal::new(5, "a noise word is out of range"),
         }
     }
 }
@@ -45,7 +34,7 @@ impl fmt::Display for NoiseFault {
     ghost output = { λ fault. Some (words fault) };
 
     fn fmt<W: fmt::Write>(&self, f: &mut fmt::Formatter<W>) -> fmt::Result {
-        write!(f, "{}", self.words())
+        f.write_str(self.words())
     }
 }
 

@@ -1,7 +1,10 @@
 // What a refusal says: its number, the place of what is wrong, and words for it.
 #![tactic(auto)]
 
-ghost use Rattle.std.specs.Prelude.{◌≡◌, ℕ, List};
+ghost use Rattle.std.specs.Prelude.{◌≡◌, ℕ, List, Some};
+ghost use Rattle.refusal.specs.Printed.{printed};
+
+use std::fmt;
 
 #[derive(Clone, Copy, Debug)]
 pub struct Refusal {
@@ -33,7 +36,17 @@ impl Refusal {
     }
 }
 
-// What is common to the reasons for which the calls of a crate are refused.
+// The line that the programs print of a refusal.
+impl fmt::Display for Refusal {
+    ghost output = { λ refusal. Some (printed refusal.number) };
+
+    fn fmt<W: fmt::Write>(&self, f: &mut fmt::Formatter<W>) -> fmt::Result {
+        write!(f, "refused {}", self.number)
+    }
+}
+
+// What is common to the reasons for which the calls of a crate are refused. Each of them writes a `Display` of one line over
+// `words`: one for all is refused, since neither `Display` nor the type would be of this crate.
 pub trait Fault {
     ghost number_of: { Self → ℕ };
 

@@ -1,50 +1,27 @@
 -- Cutting words off bytes. Assumes nothing.
-use Rattle.std.proofs.Common.{◌≡◌, ℕ, suc, ◌+◌, ◌-◌, ◌<◌, ◌≤◌, true, false, eqb, List, [], ◌∷◌, ◌++◌, length, get_or, take, drop, sym, refl, ap, ◌∙◌, ap₂, inl, inr, append_assoc, append-nil, arith}
-use Rattle.std.proofs.lemmas.List.{at_drop_more, at_drop_all, nil_from_length, take_rest}
-use Rattle.std.proofs.lemmas.Bool.{cond-true, cond-false, cases_Bool, eqb-true, eq-eqb, ne_eqb}
+use Rattle.std.proofs.Common.{Bool, cond, not, unwrap_or, position, one-add, ◌≡◌, ℕ, suc, ◌+◌, ◌-◌, true, false, eqb, List, [], ◌∷◌, ◌++◌, length, take, drop, sym, refl, ap, ◌∙◌, ap₂, inl, inr, append_assoc, append-nil, arith}
+use Rattle.std.specs.List.{position_or_len}
+use Rattle.std.proofs.lemmas.Bool.Decides.{nat_tests}
+use Rattle.std.proofs.lemmas.List.Recursion.{is_position_or_len}
+use Rattle.std.proofs.lemmas.List.Sums.{prefix_len-le-length}
+use Rattle.std.proofs.lemmas.List.{nil_from_length, take_rest}
+use Rattle.std.proofs.lemmas.Bool.{cases_Bool, eqb-true}
 use Rattle.text.specs.Words.{place, spaces, before, words_after}
 
--- one byte further, where the byte does not stand
-pub place_more : (byte : ℕ) (bs : List ℕ) (i : ℕ) → i < length bs → (get_or bs i 0 ≡ byte → ⊥)
-    → place byte bs ≡ i + place byte (drop i bs) → place byte bs ≡ (i + 1) + place byte (drop (i + 1) bs)
-place_more byte bs i within other so_far =
-    let here : place byte (drop i bs) ≡ suc (place byte (drop (i + 1) bs))
-    = at_drop_more (place byte) bs i 0 within ∙ cond-false (eqb (get_or bs i 0) byte) 0 (suc (place byte (drop (i + 1) bs))) (ne_eqb (get_or bs i 0) byte other) in
-    omega arith
+-- the library's search, and the length where it finds nothing
+found : (p : ℕ → Bool) (bs : List ℕ) → unwrap_or (position p bs) (length bs) ≡ position_or_len p bs
+found p bs = let le = prefix_len-le-length (λ b. not (p b)) bs in grind (arith, nat_tests)
 
-pub place_here : (byte : ℕ) (bs : List ℕ) (i : ℕ) → i < length bs → get_or bs i 0 ≡ byte
-    → place byte bs ≡ i + place byte (drop i bs) → i ≡ place byte bs
-place_here byte bs i within same so_far =
-    let here : place byte (drop i bs) ≡ 0
-    = at_drop_more (place byte) bs i 0 within ∙ cond-true (eqb (get_or bs i 0) byte) 0 (suc (place byte (drop (i + 1) bs))) (eq-eqb (get_or bs i 0) byte same) in
-    omega arith
+pub place_found : (byte : ℕ) (bs : List ℕ) → unwrap_or (position (λ b. eqb b byte) bs) (length bs) ≡ place byte bs
+place_found byte bs =
+    found (λ b. eqb b byte) bs
+    ∙ sym (is_position_or_len (place byte) (λ b. eqb b byte) refl (λ b bs. ap (cond (eqb b byte) 0) (sym (one-add (place byte bs)))) bs)
 
-pub place_nowhere : (byte : ℕ) (bs : List ℕ) (i : ℕ) → length bs ≤ i → i ≤ length bs
-    → place byte bs ≡ i + place byte (drop i bs) → length bs ≡ place byte bs
-place_nowhere byte bs i past within so_far =
-    let here : place byte (drop i bs) ≡ 0 = at_drop_all (place byte) bs i past in
-    omega arith
-
--- the same of spaces
-pub spaces_more : (bs : List ℕ) (i : ℕ) → i < length bs → get_or bs i 0 ≡ 32
-    → spaces bs ≡ i + spaces (drop i bs) → spaces bs ≡ (i + 1) + spaces (drop (i + 1) bs)
-spaces_more bs i within same so_far =
-    let here : spaces (drop i bs) ≡ suc (spaces (drop (i + 1) bs))
-    = at_drop_more spaces bs i 0 within ∙ cond-true (eqb (get_or bs i 0) 32) (suc (spaces (drop (i + 1) bs))) 0 (eq-eqb (get_or bs i 0) 32 same) in
-    omega arith
-
-pub spaces_here : (bs : List ℕ) (i : ℕ) → i < length bs → (get_or bs i 0 ≡ 32 → ⊥)
-    → spaces bs ≡ i + spaces (drop i bs) → i ≡ spaces bs
-spaces_here bs i within other so_far =
-    let here : spaces (drop i bs) ≡ 0
-    = at_drop_more spaces bs i 0 within ∙ cond-false (eqb (get_or bs i 0) 32) (suc (spaces (drop (i + 1) bs))) 0 (ne_eqb (get_or bs i 0) 32 other) in
-    omega arith
-
-pub spaces_all : (bs : List ℕ) (i : ℕ) → length bs ≤ i → i ≤ length bs
-    → spaces bs ≡ i + spaces (drop i bs) → length bs ≡ spaces bs
-spaces_all bs i past within so_far =
-    let here : spaces (drop i bs) ≡ 0 = at_drop_all spaces bs i past in
-    omega arith
+pub spaces_found : (bs : List ℕ) → unwrap_or (position (λ b. not (eqb b 32)) bs) (length bs) ≡ spaces bs
+spaces_found bs = found (λ b. not (eqb b 32)) bs ∙ sym (is_position_or_len spaces (λ b. not (eqb b 32)) refl step bs)
+  where
+    step : (b : ℕ) (bs : List ℕ) → spaces (b ∷ bs) ≡ cond (not (eqb b 32)) 0 (1 + spaces bs)
+    step b bs = elim (eqb b 32) as (λ v. cond v (suc (spaces bs)) 0 ≡ cond (not v) 0 (1 + spaces bs)) [ true ↦ sym (one-add (spaces bs)) | false ↦ refl ]
 
 -- spaces before the first word do not matter
 pub spaces_off : (bs : List ℕ) → words_after [] bs ≡ words_after [] (drop (spaces bs) bs)

@@ -1,25 +1,23 @@
 -- Reading and writing pairs of hex digits. Assumes nothing.
-use Rattle.std.proofs.Common.{◌≡◌, ℕ, suc, ◌+◌, ◌*◌, ◌/◌, ◌%◌, ◌<◌, ◌≤◌, List, [], ◌∷◌, ◌++◌, length, get_or, drop, Some, None, Option, sym, refl, ap, ◌∙◌, ap₂, append_assoc, append-nil, arith}
-use Rattle.std.proofs.lemmas.List.{drop_more, drop_all}
+use Rattle.std.proofs.Common.{◌-◌, ◌^◌, false, eqb, ⊎_elim, vec_items, Vec, Global, ◌≡◌, ℕ, suc, ◌+◌, ◌*◌, ◌/◌, ◌%◌, ◌<◌, List, [], ◌∷◌, ◌++◌, length, get_or, drop, Some, None, Option, sym, refl, ap, ◌∙◌, ap₂, append_assoc, arith}
+use Rattle.std.proofs.lemmas.List.{drop_more, take_all, take-append-le}
+use Rattle.std.proofs.lemmas.Bool.{cond-true, cond-false, eq-eqb, ne_eqb, cases_lt}
+use Rattle.std.proofs.lemmas.Fmt.{hex_byte}
+use Rattle.std.specs.Fmt.{digit_glyph, digits, padded_integral, format_spec}
+use Rattle.std.specs.Option.{option_map, option_and}
+use Rattle.std.specs.Vec.{with_items}
 use Rattle.std.proofs.lemmas.Bool.Decides.{nat_tests}
 use Rattle.text.specs.Numbers.{followed}
-use Rattle.text.specs.Hex.{hex_digit, byte_of, bytes_of, letter, hex_of}
+use Rattle.text.specs.Hex.{hex_digit, byte_of, bytes_of, sized_bytes, letter, hex_of}
 
 -- bytes before those that may follow
 abbrev pub after : List ℕ → Option (List ℕ) → Option (List ℕ)
 after front rest = followed rest (λ bytes. Some (front ++ bytes))
 
-after_none : (rest : Option (List ℕ)) → after [] rest ≡ rest
-after_none None = refl
-after_none (Some bytes) = refl
-
 after_more : (front : List ℕ) (byte : ℕ) (rest : Option (List ℕ))
     → after front (followed rest (λ bytes. Some (byte ∷ bytes))) ≡ after (front ++ byte ∷ []) rest
 after_more front byte None = refl
 after_more front byte (Some bytes) = ap (λ l. Some l) (sym (append_assoc front (byte ∷ []) bytes))
-
-pub begins : (word : List ℕ) → bytes_of word ≡ after [] (bytes_of (drop 0 word))
-begins word = sym (after_none (bytes_of word))
 
 two_off : (word : List ℕ) (i : ℕ) → 2 * i + 1 < length word
     → drop (2 * i) word ≡ get_or word (2 * i) 0 ∷ get_or word (2 * i + 1) 0 ∷ drop (2 * (i + 1)) word
@@ -42,22 +40,33 @@ at_pair o front word i within e so_far =
     moved None = refl
     moved (Some byte) = after_more front byte rest
 
-pub at_end : (front word : List ℕ) (i : ℕ) → length word ≤ 2 * i
-    → bytes_of word ≡ after front (bytes_of (drop (2 * i) word)) → bytes_of word ≡ Some front
-at_end front word i past so_far =
-    so_far ∙ ap (λ l. after front (bytes_of l)) (drop_all (2 * i) word past) ∙ ap (λ l. Some l) (append-nil front)
-
 none_after : {Y : Type 0} (o : Option ℕ) → followed {Y = Y} o (λ byte. None) ≡ None
 none_after None = refl
 none_after (Some byte) = refl
 
 -- a digit is left over
-pub odd_length : (word : List ℕ) → length word % 2 ≡ 1 → bytes_of word ≡ None
+odd_length : (word : List ℕ) → length word % 2 ≡ 1 → bytes_of word ≡ None
 odd_length [] odd = cc
 odd_length (a ∷ []) odd = refl
 odd_length (a ∷ b ∷ word) odd =
     let fewer : length word % 2 ≡ 1 = omega arith in
     ap (λ (rest : Option (List ℕ)). followed (byte_of a b) (λ byte. followed rest (λ bytes. Some (byte ∷ bytes)))) (odd_length word fewer) ∙ none_after (byte_of a b)
+
+-- as many bytes as the word has pairs
+whole_word : (word : List ℕ) (n : ℕ) → n ≡ length word / 2 → sized_bytes n word ≡ bytes_of word
+whole_word word n e =
+    ⊎_elim
+    (λ even. cond-true (eqb (length word) (2 * n)) (bytes_of word) None (eq-eqb (length word) (2 * n) (omega arith)))
+    (λ odd.
+    cond-false (eqb (length word) (2 * n)) (bytes_of word) None (ne_eqb (length word) (2 * n) (omega arith)) ∙ sym (odd_length word (omega arith)))
+    (cases_lt (length word % 2) 1)
+
+-- what a vector holds once its slice was filled
+pub decoded : (r : Option (Unit {0})) (v : Vec ℕ Global) (out word : List ℕ) (n : ℕ) → length out ≡ v.len → n ≡ length word / 2
+    → option_map (λ _. out) r ≡ sized_bytes n word → option_map vec_items (option_and r (Some (with_items v out))) ≡ bytes_of word
+decoded None v out word n long half e = e ∙ whole_word word n half
+decoded (Some x) v out word n long half e =
+    ap Some (take-append-le v.len out (drop (length out) v.items) (omega arith) ∙ take_all v.len out (omega arith)) ∙ e ∙ whole_word word n half
 
 digit_back : (d : ℕ) → d < 16 → hex_digit (letter d) ≡ Some d
 digit_back d h = grind (arith, nat_tests)
@@ -75,17 +84,17 @@ reads_back (byte ∷ bytes) h =
     ap₂ (λ (p : Option ℕ) (q : Option (List ℕ)). followed p (λ x. followed q (λ xs. Some (x ∷ xs))))
     (byte_back byte (h 0)) (reads_back bytes (λ i. h (suc i)))
 
+-- the library's digits
+glyph_letter : (d : ℕ) → digit_glyph false d ≡ letter d
+glyph_letter d = grind (arith, nat_tests)
+
 -- one byte further in writing
-pub written_more : (text pushed ended bytes : List ℕ) (i : ℕ) → i < length bytes → hex_of bytes ≡ text ++ hex_of (drop i bytes)
-    → pushed ≡ text ++ letter (get_or bytes i 0 / 16) ∷ [] → ended ≡ pushed ++ letter (get_or bytes i 0 % 16) ∷ []
+pub written_more : (text ended bytes : List ℕ) (i : ℕ) → i < length bytes → get_or bytes i 0 < 256 → hex_of bytes ≡ text ++ hex_of (drop i bytes)
+    → ended ≡ text ++ padded_integral (format_spec 32 0 4 2 (2 ^ 64 - 1)) false [] (digits 16 false (get_or bytes i 0))
     → hex_of bytes ≡ ended ++ hex_of (drop (i + 1) bytes)
-written_more text pushed ended bytes i within so_far p e =
-    let high = letter (get_or bytes i 0 / 16) in
-    let low = letter (get_or bytes i 0 % 16) in
+written_more text ended bytes i within byte so_far e =
+    let b = get_or bytes i 0 in
     let rest = hex_of (drop (i + 1) bytes) in
     so_far ∙ ap (λ l. text ++ hex_of l) (drop_more bytes i 0 within)
-    ∙ sym (append_assoc text (high ∷ []) (low ∷ rest)) ∙ ap (λ l. l ++ low ∷ rest) (sym p)
-    ∙ sym (append_assoc pushed (low ∷ []) rest) ∙ ap (λ l. l ++ rest) (sym e)
-
-pub written_all : (text bytes : List ℕ) (i : ℕ) → length bytes ≤ i → hex_of bytes ≡ text ++ hex_of (drop i bytes) → text ≡ hex_of bytes
-written_all text bytes i past so_far = sym (so_far ∙ ap (λ l. text ++ hex_of l) (drop_all i bytes past) ∙ append-nil text)
+    ∙ sym (append_assoc text (letter (b / 16) ∷ letter (b % 16) ∷ []) rest)
+    ∙ ap (λ l. l ++ rest) (sym (e ∙ ap (λ l. text ++ l) (hex_byte false b byte ∙ ap₂ (λ x y. x ∷ y ∷ []) (glyph_letter (b / 16)) (glyph_letter (b % 16)))))

@@ -18,6 +18,10 @@ bytes_of [] = Some []
 bytes_of (high ∷ []) = None
 bytes_of (high ∷ low ∷ word) = followed (byte_of high low) (λ byte. followed (bytes_of word) (λ bytes. Some (byte ∷ bytes)))
 
+-- the same of a word that writes n bytes alone
+abbrev pub sized_bytes : ℕ → List ℕ → Option (List ℕ)
+sized_bytes n word = cond (length word == 2 * n) (bytes_of word) None
+
 -- the same of a word of 64 digits alone
 abbrev pub seed_of : List ℕ → Option (List ℕ)
 seed_of word = cond (length word == 64) (bytes_of word) None

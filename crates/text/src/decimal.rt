@@ -1,15 +1,6 @@
 // Decimal numbers.
 ghost use Rattle.std.specs.Prelude.{◌≡◌};
-ghost use Rattle.text.specs.Numbers.{digit, decimal_value};
-
-fn digit_of(byte: u8) -> Option<u8>
-    ensures { result ≡ digit byte }
-{
-    match byte {
-        b'0'..=b'9' => Some(byte - b'0'),
-        _ => None,
-    }
-}
+ghost use Rattle.text.specs.Numbers.{decimal_value};
 
 // The number that a word of digits writes, and None where the word is no such, or the number is 2^32 or more.
 pub fn decimal(word: &[u8]) -> Option<u32>
@@ -18,16 +9,11 @@ pub fn decimal(word: &[u8]) -> Option<u32>
     if word.is_empty() {
         return None;
     }
-    let mut value: u64 = 0;
-    for b in word {
-        let Some(digit) = digit_of(*b) else {
-            return None;
-        };
-        value = value * 10 + digit as u64;
+    let mut value: u32 = 0;
+    for byte in word {
+        let digit = char::from(*byte).to_digit(10)?;
         // more digits make it no smaller
-        if value > u32::MAX as u64 {
-            return None;
-        }
+        value = value.checked_mul(10)?.checked_add(digit)?;
     }
-    Some(value as u32)
+    Some(value)
 }

@@ -1,5 +1,6 @@
 // A line cut into words.
-ghost use Rattle.std.specs.Prelude.{◌≡◌, ◌≤◌, [], ◌∷◌, length, MatchOption};
+ghost use Rattle.std.specs.Prelude.{◌≡◌, ◌≤◌, length};
+ghost use Rattle.std.specs.Iterator.{YieldsFirstRef, item_count};
 ghost use Rattle.text.specs.Words.{words, left, spaces, place};
 
 // The words of a line that are still to come.
@@ -15,15 +16,19 @@ impl<'a> Words<'a> {
         let end = place_of(b'#', line);
         Words { rest: &line[..end] }
     }
+}
 
-    // The first of the words that are left, which are then the others, and None where none is left.
-    pub fn next_word(&mut self) -> Option<&'a [u8]>
-        ensures { MatchOption result ((left self.old ≡ []) × (left self.new ≡ [])) (λ word. left self.old ≡ word.now ∷ left self.new) }
-    {
+impl<'a> Iterator for Words<'a> {
+    type Item = &'a [u8];
+
+    ghost next_gives = { YieldsFirstRef left };
+
+    ghost remaining = { item_count left };
+
+    fn next(&mut self) -> Option<&'a [u8]> {
         let start = leading_spaces(self.rest);
         let from_word = &self.rest[start..];
-        let end = place_of(b' ', from_word);
-        let (word, rest) = from_word.split_at(end);
+        let (word, rest) = from_word.split_at(place_of(b' ', from_word));
         self.rest = rest;
         if word.is_empty() { None } else { Some(word) }
     }
@@ -34,22 +39,12 @@ fn place_of(byte: u8, bytes: &[u8]) -> usize
     ensures value { result ≡ place byte bytes.now }
     ensures within { result ≤ length bytes.now }
 {
-    for (i, b) in bytes.iter().enumerate() {
-        if *b == byte {
-            return i;
-        }
-    }
-    bytes.len()
+    bytes.iter().position(|b| *b == byte).unwrap_or(bytes.len())
 }
 
 fn leading_spaces(bytes: &[u8]) -> usize
     ensures value { result ≡ spaces bytes.now }
     ensures within { result ≤ length bytes.now }
 {
-    for (i, b) in bytes.iter().enumerate() {
-        if *b != b' ' {
-            return i;
-        }
-    }
-    bytes.len()
+    bytes.iter().position(|b| *b != b' ').unwrap_or(bytes.len())
 }

@@ -1,6 +1,7 @@
 -- The line that a record prints, and the lines of a whole input. Assumes nothing.
 use Rattle.std.specs.Prelude.{ℕ, ◌+◌, ◌*◌, ◌/◌, ◌%◌, min, List, ◌++◌, length, drop, Ok, Err, codes, decimal, Result}
 use Rattle.std.specs.List.{range_with_len, flat_map}
+use Rattle.refusal.specs.Printed.{printed}
 use Rattle.trial_record.specs.Faults.{number}
 use Rattle.trial_record.specs.Trials.{record_reply}
 use Rattle.trial_record.specs.declared.fault.TrialFault.{TrialFault}
@@ -10,7 +11,7 @@ use Rattle.trial_record.specs.declared.record.Outcome.{Outcome}
 abbrev pub line : Result Outcome TrialFault → List ℕ
 line (Ok o) =
     decimal o.digit ++ (codes " " ++ (decimal o.hint ++ (codes " " ++ (decimal o.recovered ++ (codes " " ++ decimal o.distance)))))
-line (Err fault) = codes "refused " ++ decimal (number fault)
+line (Err fault) = printed (number fault)
 
 -- the line of the record with the number i, whose bytes stand from 14 * i on
 abbrev pub line_at : List ℕ → ℕ → List ℕ

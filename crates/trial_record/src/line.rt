@@ -5,6 +5,7 @@ ghost use Rattle.trial_record.specs.Trials.{record_reply};
 
 use crate::fault::TrialFault;
 use crate::record::{Outcome, Record};
+use refusal::Fault;
 use std::alloc::{AllocError, Global};
 
 fn try_record(bytes: &[u8]) -> Result<Outcome, TrialFault>
@@ -26,10 +27,7 @@ fn record_line(heap: Global, bytes: &[u8]) -> Result<String, AllocError>
                 distance,
             },
         ) => format!(in heap; "{digit} {hint} {recovered} {distance}"),
-        Err(fault) => {
-            let number = fault.number();
-            format!(in heap; "refused {number}")
-        }
+        Err(fault) => format!(in heap; "{}", fault.refusal()),
     }
 }
 
@@ -38,8 +36,8 @@ pub fn lines(heap: Global, input: &[u8]) -> Result<String, AllocError>
     ensures { IfOk result (λ text. string_bytes text ≡ output input.now) }
 {
     let mut text = String::new(heap);
-    for i in 0..input.len().div_ceil(14) {
-        let line = record_line(heap, &input[14 * i..])?;
+    for record in input.chunks(14) {
+        let line = record_line(heap, record)?;
         text.push_str(line.as_str())?;
         text.push_str("\n")?;
     }

@@ -7,12 +7,13 @@ use crate::fault::TrialFault;
 use consensus::akcn::Akcn;
 use consensus::carry::carry;
 use consensus::fault::RuleFault;
+use consensus::kind::RuleKind;
 use consensus::okcn::Okcn;
 use consensus::rule::Rule;
 
 #[derive(Clone, Copy)]
 pub struct Record {
-    // 1 for OKCN, 2 for AKCN.
+    // The number of a `RuleKind`, or one that no rule has: reading takes any.
     pub rule: u16,
     pub q: u16,
     pub m: u16,
@@ -36,17 +37,17 @@ impl Record {
     pub fn read(bytes: &[u8]) -> Result<Record, TrialFault>
         ensures { result ≡ read_reply bytes.now }
     {
-        let [r1, r0, q1, q0, m1, m0, g1, g0, s1, s0, d1, d0, t1, t0, ..] = bytes else {
+        let &[r1, r0, q1, q0, m1, m0, g1, g0, s1, s0, d1, d0, t1, t0, ..] = bytes else {
             return Err(TrialFault::CutShort);
         };
         Ok(Record {
-            rule: *r1 as u16 * 256 + *r0 as u16,
-            q: *q1 as u16 * 256 + *q0 as u16,
-            m: *m1 as u16 * 256 + *m0 as u16,
-            g: *g1 as u16 * 256 + *g0 as u16,
-            sum: *s1 as u16 * 256 + *s0 as u16,
-            draw: *d1 as u16 * 256 + *d0 as u16,
-            second: *t1 as u16 * 256 + *t0 as u16,
+            rule: u16::from_be_bytes([r1, r0]),
+            q: u16::from_be_bytes([q1, q0]),
+            m: u16::from_be_bytes([m1, m0]),
+            g: u16::from_be_bytes([g1, g0]),
+            sum: u16::from_be_bytes([s1, s0]),
+            draw: u16::from_be_bytes([d1, d0]),
+            second: u16::from_be_bytes([t1, t0]),
         })
     }
 
@@ -55,13 +56,12 @@ impl Record {
         ensures answer { result ≡ run_reply self.now }
         ensures agrees { IfOk result (λ o. apart self.now.q self.now.sum self.now.second ≤ o.distance → o.recovered ≡ o.digit) }
     {
-        let q = self.q as u32;
-        let m = self.m as u32;
-        let g = self.g as u32;
-        match self.rule {
-            1 => Ok(attempt(&Okcn::new(q, m, g)?, self)?),
-            2 => Ok(attempt(&Akcn::new(q, m, g)?, self)?),
-            _ => Err(TrialFault::UnknownRule),
+        let q = u32::from(self.q);
+        let m = u32::from(self.m);
+        let g = u32::from(self.g);
+        match RuleKind::try_from(self.rule)? {
+            RuleKind::Okcn => Ok(attempt(&Okcn::new(q, m, g)?, self)?),
+            RuleKind::Akcn => Ok(attempt(&Akcn::new(q, m, g)?, self)?),
         }
     }
 }

@@ -1,3 +1,5 @@
+pub mod Faults
+pub mod Lines
 pub mod Arguments
 pub mod Shakes
 pub mod Refusals

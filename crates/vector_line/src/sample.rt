@@ -1,13 +1,13 @@
 // The request `noise LAW WORD`.
 ghost use Rattle.std.specs.Prelude.{◌≡◌, IfOk, string_bytes};
-ghost use Rattle.std.specs.Option.{option_map};
 ghost use Rattle.text.specs.Words.{left};
+ghost use Rattle.vector_line.specs.Faults.{Gives};
 ghost use Rattle.vector_line.specs.Samples.{sample_reply, sample_text, sample_line};
 
-use crate::arguments::two_words;
-use crate::refusal::refusal_text;
+use crate::fault::LineFault;
 use noise::fault::NoiseFault;
 use noise::law::NoiseLaw;
+use refusal::Fault;
 use std::alloc::{AllocError, Global};
 use text::decimal::decimal;
 use text::words::Words;
@@ -16,14 +16,10 @@ use text::words::Words;
 fn sample(law: u32, word: u32) -> Result<i16, NoiseFault>
     ensures { result ≡ sample_reply law word }
 {
-    if law > u8::MAX as u32 {
-        return Err(NoiseFault::Law);
-    }
-    let law = NoiseLaw::new(law as u8)?;
-    if word > u16::MAX as u32 {
-        return Err(NoiseFault::Word);
-    }
-    law.value(word as u16)
+    let law = u8::try_from(law).or(Err(NoiseFault::Law))?;
+    let law = NoiseLaw::try_from(law)?;
+    let word = u16::try_from(word).or(Err(NoiseFault::Word))?;
+    law.value(word)
 }
 
 // The line of a value, or of a refusal.
@@ -32,22 +28,19 @@ fn sample_text(heap: Global, reply: Result<i16, NoiseFault>) -> Result<String, A
 {
     match reply {
         Ok(value) => format!(in heap; "{value}"),
-        Err(fault) => refusal_text(heap, fault.number()),
+        Err(fault) => format!(in heap; "{}", fault.refusal()),
     }
 }
 
-// What `noise` with these words after it prints, and None where they are no two numbers.
-pub fn sample_line(heap: Global, words: Words<'_>) -> Result<Option<String>, AllocError>
-    ensures { IfOk result (λ o. option_map string_bytes o ≡ sample_line (left words.entry)) }
+// What `noise` with these words after it prints; no request, where they are no two numbers.
+pub fn sample_line(heap: Global, words: Words<'_>) -> Result<String, LineFault>
+    ensures { Gives string_bytes (sample_line (left words.entry)) result }
 {
-    let Some((law, word)) = two_words(words) else {
-        return Ok(None);
+    let words: Vec<&[u8]> = words.collect(heap)?;
+    let [law, word] = words.as_slice() else {
+        return Err(LineFault::NoRequest);
     };
-    let Some(law) = decimal(law) else {
-        return Ok(None);
-    };
-    let Some(word) = decimal(word) else {
-        return Ok(None);
-    };
-    Ok(Some(sample_text(heap, sample(law, word))?))
+    let law = decimal(law).ok_or(LineFault::NoRequest)?;
+    let word = decimal(word).ok_or(LineFault::NoRequest)?;
+    Ok(sample_text(heap, sample(law, word))?)
 }

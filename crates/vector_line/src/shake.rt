@@ -1,11 +1,11 @@
 // The request `shake128 HEX LENGTH`.
 ghost use Rattle.std.specs.Prelude.{◌≡◌, IfOk, vec_items, string_bytes};
 ghost use Rattle.keccak.specs.Sponge.{shake128};
-ghost use Rattle.std.specs.Option.{option_map};
 ghost use Rattle.text.specs.Words.{left};
+ghost use Rattle.vector_line.specs.Faults.{Gives};
 ghost use Rattle.vector_line.specs.Shakes.{message_of, shake_line};
 
-use crate::arguments::{same, two_words};
+use crate::fault::LineFault;
 use keccak::sponge::shake128;
 use std::alloc::{AllocError, Global};
 use text::decimal::decimal;
@@ -13,13 +13,13 @@ use text::hex::{decode, encode};
 use text::words::Words;
 
 // The message that a word writes: `-` is the empty one.
-fn message_of(heap: Global, word: &[u8]) -> Result<Option<Vec<u8>>, AllocError>
-    ensures { IfOk result (λ o. option_map vec_items o ≡ message_of word.now) }
+fn message_of(heap: Global, word: &[u8]) -> Result<Vec<u8>, LineFault>
+    ensures { Gives vec_items (message_of word.now) result }
 {
-    if same(word, b"-") {
-        return Ok(Some(Vec::new(heap)));
+    if word == b"-".as_slice() {
+        return Ok(Vec::new(heap));
     }
-    decode(heap, word)
+    decode(heap, word)?.ok_or(LineFault::NoRequest)
 }
 
 // The first bytes of SHAKE128 of the message.
@@ -31,19 +31,17 @@ fn output(heap: Global, message: &[u8], length: usize) -> Result<Vec<u8>, AllocE
     Ok(bytes)
 }
 
-// What `shake128` with these words after it prints, and None where they are no hex and length.
-pub(crate) fn shake_line(heap: Global, words: Words<'_>) -> Result<Option<String>, AllocError>
-    ensures { IfOk result (λ o. option_map string_bytes o ≡ shake_line (left words.entry)) }
+// What `shake128` with these words after it prints; no request, where they are no hex and length.
+pub(crate) fn shake_line(heap: Global, words: Words<'_>) -> Result<String, LineFault>
+    ensures { Gives string_bytes (shake_line (left words.entry)) result }
 {
-    let Some((message, length)) = two_words(words) else {
-        return Ok(None);
+    let words: Vec<&[u8]> = words.collect(heap)?;
+    let [message, length] = words.as_slice() else {
+        return Err(LineFault::NoRequest);
     };
-    let Some(message) = message_of(heap, message)? else {
-        return Ok(None);
-    };
-    let Some(length) = decimal(length) else {
-        return Ok(None);
-    };
+    let message = message_of(heap, message)?;
+    let length = decimal(length).ok_or(LineFault::NoRequest)?;
+    // `as`: there is no `From` between u32 and usize
     let bytes = output(heap, message.as_slice(), length as usize)?;
-    Ok(Some(encode(heap, bytes.as_slice())?))
+    Ok(encode(heap, bytes.as_slice())?)
 }

@@ -3,27 +3,22 @@
 
 use std::io::Read;
 use std::process::ExitCode;
-use vector_line::line::{answer, first_line};
-use vector_line::reply::Answer;
+use vector_line::fault::LineFault;
+use vector_line::line::answer;
+use vector_line::lines::Lines;
 
 fn main(rt: HostRuntime) -> anyhow::Result<ExitCode> {
     let mut input = Vec::new(rt.alloc());
     rt.stdin().read_to_end(&mut input)?;
-    let mut rest = input.as_slice();
-    // there are no more lines than bytes
-    for number in 1..=input.len() {
-        if rest.is_empty() {
-            break;
-        }
-        let (line, after) = first_line(rest);
-        rest = after;
-        match answer(rt.alloc(), line)? {
-            Answer::Nothing => {}
-            Answer::Line(text) => println!(rt; "{text}")?,
-            Answer::NoRequest => {
+    for (number, line) in (1usize..).zip(Lines::of(input.as_slice())) {
+        match answer(rt.alloc(), line) {
+            Ok(None) => {}
+            Ok(Some(text)) => println!(rt; "{text}")?,
+            Err(LineFault::NoRequest) => {
                 eprintln!(rt; "line {number} is no request")?;
                 return Ok(ExitCode::FAILURE);
             }
+            Err(LineFault::Memory(error)) => return Err(error.into()),
         }
     }
     Ok(ExitCode::SUCCESS)

@@ -1,7 +1,7 @@
 -- What the faults of a message say. Assumes nothing.
-use Rattle.std.proofs.Common.{◌≡◌, ℕ, zero, suc, ◌+◌, ◌<◌, ◌≤◌, List, [], ◌∷◌, length, get_or, drop, Some, None, Option, sym, refl, ◌∙◌, arith}
-use Rattle.std.proofs.lemmas.List.{at_drop_more, at_drop_all}
-use Rattle.std.proofs.lemmas.Bool.{cond-true, cond-false, lt-ltb, le-ltb}
+use Rattle.std.proofs.Common.{◌≡◌, ℕ, zero, suc, ◌+◌, ◌≤◌, List, [], ◌∷◌, length, map, position, nat_le, Some, None, Option, sym, refl, ◌∙◌, arith}
+use Rattle.std.specs.Option.{option_map}
+use Rattle.std.proofs.lemmas.Bool.{cond-true, lt-ltb}
 use Rattle.std.proofs.lemmas.Bool.Decides.{nat_tests}
 use Rattle.lwe.specs.Limits.{Dimensions}
 use Rattle.wire.specs.declared.fault.WireFault.{WireFault}
@@ -14,16 +14,11 @@ use Rattle.wire.specs.Faults.{first_of}
 use Rattle.wire.specs.Headers.{message_length, header, header_of, short_fault, field_fault, header_fault}
 use Rattle.wire.specs.Messages.{over, Below}
 
--- one turn of the loop over numbers, and its end
-module _ (limit i j : ℕ) (xs : List ℕ) where
-  pub over_here : i < length xs → limit ≤ get_or xs i 0 → over limit j (drop i xs) ≡ Some (Entry j)
-  over_here inside h = at_drop_more (over limit j) xs i 0 inside ∙ cond-false _ _ _ (le-ltb _ _ h)
-
-  pub over_on : i < length xs → get_or xs i 0 < limit → over limit j (drop i xs) ≡ over limit (j + 1) (drop (i + 1) xs)
-  over_on inside h = at_drop_more (over limit j) xs i 0 inside ∙ cond-true _ _ _ (lt-ltb _ _ h)
-
-  pub over_end : length xs ≤ i → over limit j (drop i xs) ≡ None
-  over_end h = at_drop_all (over limit j) xs i h
+-- the first number at fault is the first that is not below the limit
+pub over_position : {X : Type 0} (f : X → ℕ) (limit from : ℕ) (xs : List X)
+    → over limit from (map f xs) ≡ option_map (λ i. Entry (from + i)) (position (λ x. nat_le limit (f x)) xs)
+over_position f limit from [] = refl
+over_position f limit from (x ∷ xs) = let rest = over_position f limit (from + 1) xs in grind (arith, nat_tests)
 
 -- no number is at fault if and only if each is below the limit
 pub over_below : (limit j : ℕ) (xs : List ℕ) → over limit j xs ≡ None → Below limit xs

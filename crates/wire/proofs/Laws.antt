@@ -1,9 +1,11 @@
 -- Laws of numbers in two bytes each. Assumes nothing.
-use Rattle.std.proofs.Common.{◌≡◌, ℕ, zero, suc, ◌+◌, ◌-◌, ◌*◌, ◌/◌, ◌%◌, ◌<◌, ◌≤◌, List, [], ◌∷◌, ◌++◌, length, get_or, take, drop, set, sym, refl, ap, ◌∙◌, arith}
+use Rattle.std.proofs.Common.{◌≡◌, ℕ, zero, suc, ◌+◌, ◌-◌, ◌*◌, ◌/◌, ◌%◌, ◌<◌, ◌≤◌, List, [], ◌∷◌, ◌++◌, length, get_or, take, drop, map, sym, refl, ap, ◌∙◌, arith}
 use lib.Seq.{paste}
-use Rattle.std.proofs.lemmas.List.Edits.{paste_more}
-use Rattle.std.proofs.lemmas.List.{drop_more}
-use Rattle.wire.specs.Bytes.{number_at, bytes_of, numbers_of}
+use Rattle.std.proofs.lemmas.List.Edits.{paste-paste}
+use Rattle.std.proofs.lemmas.List.{drop_more, take_more, length-take-le}
+use Rattle.std.specs.Simd.{first_chunks}
+use Rattle.wire.specs.Views.{pair_number}
+use Rattle.wire.specs.Bytes.{bytes_of, numbers_of}
 
 abbrev pub Bytes : List ℕ → Type 0
 Bytes m = (i : ℕ) → get_or m i 0 < 256
@@ -30,6 +32,14 @@ length_numbers [] = refl
 length_numbers (x ∷ []) = refl
 length_numbers (x ∷ y ∷ bs) = omega (arith, length_numbers bs)
 
+pub pairs_numbers : (k : ℕ) (bs : List ℕ) → k ≡ length bs / 2 → map pair_number (first_chunks 2 k bs) ≡ numbers_of bs
+pairs_numbers zero [] e = refl
+pairs_numbers (suc k) [] e = absurd (omega arith)
+pairs_numbers zero (x ∷ []) e = refl
+pairs_numbers (suc k) (x ∷ []) e = absurd (omega arith)
+pairs_numbers zero (x ∷ y ∷ bs) e = absurd (omega arith)
+pairs_numbers (suc k) (x ∷ y ∷ bs) e = ap (λ t. (x * 256 + y) ∷ t) (pairs_numbers k bs (omega arith))
+
 pub bytes_append : (xs ys : List ℕ) → bytes_of (xs ++ ys) ≡ bytes_of xs ++ bytes_of ys
 bytes_append [] ys = refl
 bytes_append (x ∷ xs) ys = ap (λ t. x / 256 ∷ x % 256 ∷ t) (bytes_append xs ys)
@@ -43,15 +53,6 @@ drop_two m i h =
 two_more : (k : ℕ) → 2 * suc k ≡ suc (suc (2 * k))
 two_more k = omega arith
 
-pub get_or_numbers : (bs : List ℕ) (i : ℕ) → i < length bs / 2 → get_or (numbers_of bs) i 0 ≡ number_at bs (2 * i)
-get_or_numbers [] i h = absurd (omega arith)
-get_or_numbers (x ∷ []) i h = absurd (omega arith)
-get_or_numbers (x ∷ y ∷ bs) zero h = refl
-get_or_numbers (x ∷ y ∷ bs) (suc i) h =
-    let odd : 2 * suc i + 1 ≡ suc (suc (2 * i + 1)) = omega arith in
-    let at_place : ℕ → ℕ = λ j. get_or (x ∷ y ∷ bs) j 0 in
-    get_or_numbers bs i (omega arith) ∙ sym (λ j. ap at_place (two_more i) j * 256 + ap at_place odd j)
-
 pub take_numbers : (k : ℕ) (bs : List ℕ) → numbers_of (take (2 * k) bs) ≡ take k (numbers_of bs)
 take_numbers zero bs = refl
 take_numbers (suc k) [] = ap (λ j. numbers_of (take j [])) (two_more k)
@@ -64,23 +65,17 @@ drop_numbers (suc k) [] = ap (λ j. numbers_of (drop j [])) (two_more k)
 drop_numbers (suc k) (x ∷ []) = ap (λ j. numbers_of (drop j (x ∷ []))) (two_more k)
 drop_numbers (suc k) (x ∷ y ∷ bs) = ap (λ j. numbers_of (drop j (x ∷ y ∷ bs))) (two_more k) ∙ drop_numbers k bs
 
-get_or_bytes : (xs : List ℕ) (i : ℕ)
-    → (get_or (bytes_of xs) (2 * i) 0 ≡ get_or xs i 0 / 256) × (get_or (bytes_of xs) (2 * i + 1) 0 ≡ get_or xs i 0 % 256)
-get_or_bytes [] i = (refl, refl)
-get_or_bytes (x ∷ xs) zero = (refl, refl)
-get_or_bytes (x ∷ xs) (suc i) =
-    let odd : 2 * suc i + 1 ≡ suc (suc (2 * i + 1)) = omega arith in
-    let at_place : ℕ → ℕ = λ j. get_or (bytes_of (x ∷ xs)) j 0 in
-    (ap at_place (two_more i) ∙ (get_or_bytes xs i).0, ap at_place odd ∙ (get_or_bytes xs i).1)
-
 -- one turn of the loop that writes the numbers xs into d
-pub put_number : (d : List ℕ) (p : ℕ) (xs : List ℕ) (i : ℕ) (out : List ℕ) (high low : ℕ) → p + 2 * length xs ≤ length d → i < length xs
-    → out ≡ paste d p (bytes_of xs) (2 * i) → high ≡ get_or xs i 0 / 256 → low ≡ get_or xs i 0 % 256
-    → set (set out (p + 2 * i) high) (p + 2 * i + 1) low ≡ paste d p (bytes_of xs) (2 * (i + 1))
-put_number d p xs i out high low fits inside was h l =
-    let long = length_bytes xs in
-    let one = paste_more d p (bytes_of xs) (2 * i) 0 (omega arith) (omega arith) in
-    let two = paste_more d p (bytes_of xs) (2 * i + 1) 0 (omega arith) (omega arith) in
-    let there : p + 2 * i + 1 ≡ p + (2 * i + 1) = omega arith in
-    let next : 2 * i + 1 + 1 ≡ 2 * (i + 1) = omega arith in
-    cc ((get_or_bytes xs i).0, (get_or_bytes xs i).1)
+pub put_number : (d : List ℕ) (p : ℕ) (xs : List ℕ) (i : ℕ) (out pair : List ℕ) → p + 2 * length xs ≤ length d → i < length xs
+    → out ≡ paste d p (bytes_of (take i xs)) (2 * i) → pair ≡ bytes_of (get_or xs i 0 ∷ [])
+    → paste out (p + 2 * i) pair (length pair) ≡ paste d p (bytes_of (take (i + 1) xs)) (2 * (i + 1))
+put_number d p xs i out pair fits inside was is =
+    let before = take i xs in
+    let long : 2 * i ≡ length (bytes_of before) = omega (arith, length_bytes before, length-take-le i xs (omega arith)) in
+    let two : length pair ≡ 2 = ap length is in
+    let more : bytes_of before ++ pair ≡ bytes_of (take (i + 1) xs) =
+    ap (λ t. bytes_of before ++ t) is ∙ sym (bytes_append before (get_or xs i 0 ∷ [])) ∙ ap bytes_of (sym (take_more xs i 0 inside)) in
+    let count : 2 * i + length pair ≡ 2 * (i + 1) = omega arith in
+    (λ j. paste (was j) (p + 2 * i) pair (length pair))
+    ∙ paste-paste d p (bytes_of before) pair (2 * i) (length pair) long refl (omega arith)
+    ∙ (λ j. paste d p (more j) (count j))

@@ -1,6 +1,6 @@
 -- A message reads back as its fields, and is their only writing. Assumes nothing.
-use Rattle.std.proofs.Common.{◌≡◌, ℕ, ◌+◌, ◌-◌, ◌*◌, List, [], ◌++◌, length, take, drop, None, sym, refl, ap, ◌∙◌, subst, append_assoc, arith}
-use Rattle.std.proofs.lemmas.List.{drop_all, drop-drop, drop_at, take_all, take_at, take-append-drop, take_rest, length-append, length-drop, length-take-le, get_or-drop}
+use Rattle.std.proofs.Common.{◌≡◌, ℕ, ◌+◌, ◌*◌, List, [], ◌++◌, length, take, drop, None, sym, refl, ap, ◌∙◌, subst, append_assoc, arith}
+use Rattle.std.proofs.lemmas.List.{drop_all, drop-drop, drop_at, take_all, take_at, take-append-drop, length-append, length-drop, length-take-le, get_or-drop}
 use Rattle.std.proofs.lemmas.Bool.{cond-true, le-leb}
 use Rattle.lwe.specs.Limits.{Dimensions}
 use Rattle.wire.specs.declared.kind.Kind.{Kind}
@@ -58,29 +58,27 @@ module _ (s : Dimensions) (k : Kind) (m : List ℕ) (none : header_fault s k m �
       } in
       subst (Taken s k m) (sym e) stated
 
--- what the views of a message state
-pub offer_stated : (s : Dimensions) (m seed : List ℕ) (session : ℕ)
-    → length m ≡ message_length s Offer → session ≡ number_at m 2 → seed ≡ take 32 (drop 16 m)
-    → offer session seed (numbers_of (take (length m - 48) (drop 48 m))) ≡ decode s Offer m
-offer_stated s m seed session long same is =
+-- what the views of a message state, where `body` is what stands behind its header
+pub offer_stated : (s : Dimensions) (m body seed entries : List ℕ) (session : ℕ)
+    → length m ≡ message_length s Offer → session ≡ number_at m 2 → body ≡ drop 16 m
+    → seed ≡ take 32 body → entries ≡ numbers_of (drop 32 body) → offer session seed entries ≡ decode s Offer m
+offer_stated s m body seed entries session long same is front back =
     let ns = numbers_of (drop 48 m) in
     let few : length ns ≡ s.n * s.la = omega (arith, length_numbers (drop 48 m), length-drop 48 m) in
-    let all : numbers_of (take (length m - 48) (drop 48 m)) ≡ take (s.n * s.la) ns =
-    ap numbers_of (take_rest m 48) ∙ sym (take_all (s.n * s.la) ns (omega arith)) in
+    let all : entries ≡ ns = back ∙ (λ i. numbers_of (drop 32 (is i))) ∙ ap numbers_of (drop-drop 32 16 m) in
+    let whole : entries ≡ take (s.n * s.la) ns = all ∙ sym (take_all (s.n * s.la) ns (omega arith)) in
     let none : [] ≡ drop (s.n * s.la) ns = sym (drop_all (s.n * s.la) ns (omega arith)) in
-    λ i. record { session = same i; seed = is i; entries = all i; hints = none i }
+    let first : seed ≡ take 32 (drop 16 m) = front ∙ ap (take 32) is in
+    λ i. record { session = same i; seed = first i; entries = whole i; hints = none i }
 
-pub answer_stated : (s : Dimensions) (m : List ℕ) (session : ℕ) → session ≡ number_at m 2
-    → let middle = 16 + 2 * (s.n * s.lb) in
-    let entries = numbers_of (take (middle - 16) (drop 16 m)) in
-    let hints = numbers_of (take (length m - middle) (drop middle m)) in
-    answer session entries hints ≡ decode s Answer m
-answer_stated s m session same =
+pub answer_stated : (s : Dimensions) (m body entries hints : List ℕ) (session : ℕ) → session ≡ number_at m 2 → body ≡ drop 16 m
+    → entries ≡ numbers_of (take (2 * (s.n * s.lb)) body) → hints ≡ numbers_of (drop (2 * (s.n * s.lb)) body)
+    → answer session entries hints ≡ decode s Answer m
+answer_stated s m body entries hints session same is front back =
     let n = s.n * s.lb in
-    let there : 16 + 2 * n - 16 ≡ 2 * n = omega arith in
-    let front = ap (λ j. numbers_of (take j (drop 16 m))) there ∙ take_numbers n (drop 16 m) in
-    let back = ap numbers_of (take_rest m (16 + 2 * n) ∙ sym (drop-drop (2 * n) 16 m)) ∙ drop_numbers n (drop 16 m) in
-    λ i. record { session = same i; seed = []; entries = front i; hints = back i }
+    let first = front ∙ (λ i. numbers_of (take (2 * n) (is i))) ∙ take_numbers n (drop 16 m) in
+    let second = back ∙ (λ i. numbers_of (drop (2 * n) (is i))) ∙ drop_numbers n (drop 16 m) in
+    λ i. record { session = same i; seed = []; entries = first i; hints = second i }
 
 pub encode_long : (s : Dimensions) (k : Kind) (f : Fields) → Sized s k f → length (encode s k f) ≡ message_length s k
 encode_long s k f r =

@@ -1,26 +1,10 @@
 -- What is written part by part over the front of a buffer. Assumes nothing.
-use Rattle.std.proofs.Common.{◌≡◌, ℕ, ◌+◌, ◌*◌, ◌<◌, ◌≤◌, List, ◌++◌, length, drop, Ok, Err, Result, sym, refl, ap, ◌∙◌, append_assoc, arith}
+use Rattle.std.proofs.Common.{◌≡◌, ℕ, ◌+◌, ◌*◌, List, ◌++◌, length, drop, sym, refl, ap, ◌∙◌, append_assoc, arith}
 use lib.Seq.{paste}
 use Rattle.std.proofs.lemmas.List.Edits.{paste_all, paste-paste}
 use Rattle.std.proofs.lemmas.List.{length-append}
-use Rattle.std.proofs.lemmas.Bool.{cond-true, cond-false, le-leb, lt-leb}
-use Rattle.lwe.specs.Limits.{Dimensions}
-use Rattle.wire.specs.declared.fault.WireFault.{WireFault}
-use Rattle.wire.specs.declared.fault.WireFault.TheVariants.{Room}
-use Rattle.wire.specs.declared.kind.Kind.{Kind}
 use Rattle.wire.specs.Bytes.{bytes_of}
-use Rattle.wire.specs.Headers.{message_length}
-use Rattle.wire.specs.Messages.{write_reply}
 use Rattle.wire.proofs.Laws.{length_bytes, bytes_append}
-
-module _ (s : Dimensions) (k : Kind) (size room : ℕ) (is : size ≡ message_length s k) where
-  pub reply_written : size ≤ room → Ok size ≡ write_reply s k room
-  reply_written h =
-      let same : Result ℕ WireFault = Ok (message_length s k) in
-      ap Ok is ∙ sym (cond-true _ same (Err Room) (le-leb (message_length s k) room (omega arith)))
-
-  pub reply_refused : room < size → Err Room ≡ write_reply s k room
-  reply_refused h = sym (cond-false _ (Ok (message_length s k)) (Err Room) (lt-leb (message_length s k) room (omega arith)))
 
 -- the buffer d, with bs written over its front
 abbrev Front : List ℕ → List ℕ → List ℕ → Type 0

@@ -1,5 +1,5 @@
 -- Why a message or a buffer is refused: the number, the place and the words; and which fault comes first. Assumes nothing.
-use Rattle.std.specs.Prelude.{◌≡◌, ℕ, Bool, cond, List, Some, None, Ok, Err, codes, Option, Result}
+use Rattle.std.specs.Prelude.{◌≡◌, ℕ, Bool, cond, List, [], ◌∷◌, Some, None, Ok, Err, codes, Option, Result}
 use Rattle.wire.specs.declared.fault.WireFault.{WireFault}
 use Rattle.wire.specs.declared.fault.WireFault.TheVariants.{Room, Short, Field, Shape, Entry}
 
@@ -27,6 +27,11 @@ words (Entry i) = codes "an entry or a hint is out of range"
 -- the fault, unless the test holds; then what comes next
 abbrev pub unless : Bool → WireFault → Option WireFault → Option WireFault
 unless holds fault next = cond holds next (Some fault)
+
+-- the fault of the first test that fails
+abbrev pub first_unless : List (Bool × WireFault) → Option WireFault
+first_unless [] = None
+first_unless ((holds, fault) ∷ rest) = unless holds fault (first_unless rest)
 
 -- the first of two faults
 abbrev pub first_of : Option WireFault → Option WireFault → Option WireFault

@@ -1,5 +1,5 @@
 -- The header of a message, and its faults. Assumes nothing.
-use Rattle.std.specs.Prelude.{ℕ, ◌+◌, ◌*◌, not, ◌&&◌, List, [], ◌∷◌, length, None, Option, ◌==◌, nat_le}
+use Rattle.std.specs.Prelude.{ℕ, ◌+◌, ◌*◌, not, List, [], ◌∷◌, length, None, Option, ◌==◌, nat_le}
 use Rattle.lwe.specs.Limits.{Dimensions}
 use Rattle.wire.specs.declared.fault.WireFault.{WireFault}
 use Rattle.wire.specs.declared.fault.WireFault.TheVariants.{Short, Field, Shape}
@@ -7,7 +7,12 @@ use Rattle.wire.specs.declared.header.Header.{Header}
 use Rattle.wire.specs.declared.kind.Kind.{Kind}
 use Rattle.wire.specs.declared.kind.Kind.TheVariants.{Offer, Answer}
 use Rattle.wire.specs.Bytes.{number_at}
-use Rattle.wire.specs.Faults.{unless, first_of}
+use Rattle.wire.specs.Faults.{unless, first_unless, first_of}
+
+-- the number that stands for a kind
+abbrev pub kind_number : Kind → ℕ
+kind_number Offer = 1
+kind_number Answer = 2
 
 abbrev pub message_length : Dimensions → Kind → ℕ
 message_length s Offer = 48 + 2 * (s.n * s.la)
@@ -16,7 +21,7 @@ message_length s Answer = 16 + 2 * (s.n * s.lb) + 2 * (s.la * s.lb)
 -- an offer has its seed at 16 and Y1 at 48; an answer has Y2 at 16 and its hints behind it
 abbrev pub header : Dimensions → Kind → ℕ → Header
 header s Offer session = record {
-  kind = 1;
+  kind = kind_number Offer;
   number = session;
   rows = s.n;
   columns = s.la;
@@ -26,7 +31,7 @@ header s Offer session = record {
   length = message_length s Offer;
 }
 header s Answer session = record {
-  kind = 2;
+  kind = kind_number Answer;
   number = session;
   rows = s.n;
   columns = s.lb;
@@ -60,14 +65,18 @@ short_fault m = unless (nat_le 16 (length m)) (Short (length m)) None
 -- The last field is right only if it states the length due and the message has that length.
 abbrev pub field_fault : Header → Header → ℕ → Option WireFault
 field_fault got due size =
-    unless (got.kind == due.kind) (Field 0)
-    (unless (not (got.number == 0)) (Field 2)
-    (unless (got.rows == due.rows) (Shape 4)
-    (unless (got.columns == due.columns) (Shape 6)
-    (unless (got.first == due.first) (Field 8)
-    (unless (got.second == due.second) (Field 10)
-    (unless (got.hints == due.hints) (Field 12)
-    (unless (got.length == due.length && size == due.length) (Field 14) None)))))))
+    first_unless (
+    (got.kind == due.kind, Field 0)
+    ∷ (not (got.number == 0), Field 2)
+    ∷ (got.rows == due.rows, Shape 4)
+    ∷ (got.columns == due.columns, Shape 6)
+    ∷ (got.first == due.first, Field 8)
+    ∷ (got.second == due.second, Field 10)
+    ∷ (got.hints == due.hints, Field 12)
+    ∷ (got.length == due.length, Field 14)
+    ∷ (size == due.length, Field 14)
+    ∷ []
+    )
 
 -- the first fault of a message's length and header; any session but 0 is right
 abbrev pub header_fault : Dimensions → Kind → List ℕ → Option WireFault

@@ -3,13 +3,6 @@ ghost use Rattle.std.specs.Prelude.{◌≡◌, ◌+◌, ◌*◌, ◌≤◌, leng
 ghost use Rattle.std.proofs.Math.Seq.{paste};
 ghost use Rattle.wire.specs.Bytes.{bytes_of};
 
-// The number of two bytes.
-pub(crate) fn word(high: u8, low: u8) -> u16
-    ensures { result ≡ high * 256 + low }
-{
-    u16::from_be_bytes([high, low])
-}
-
 // Writes bytes over what stands from `place` on.
 pub(crate) fn put_bytes(out: &mut [u8], place: usize, bytes: &[u8])
     requires { place + length bytes.now ≤ length out.old }
@@ -25,8 +18,6 @@ pub(crate) fn put_numbers(out: &mut [u8], place: usize, numbers: &[u16])
     ensures { out.new ≡ paste out.old place (bytes_of numbers.now) (2 * length numbers.now) }
 {
     for (i, x) in numbers.iter().enumerate() {
-        let [high, low] = x.to_be_bytes();
-        out[place + 2 * i] = high;
-        out[place + 2 * i + 1] = low;
+        put_bytes(out, place + 2 * i, &x.to_be_bytes());
     }
 }

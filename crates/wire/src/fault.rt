@@ -1,7 +1,8 @@
 // Why a message or a buffer is refused.
-ghost use Rattle.std.specs.Prelude.{◌≡◌, Some};
+ghost use Rattle.std.specs.Prelude.{Some};
 ghost use Rattle.wire.specs.Faults.{number, place, words};
 
+use refusal::{Fault, Refusal};
 use std::error::Error;
 use std::fmt;
 
@@ -19,41 +20,26 @@ pub enum WireFault {
     Entry { index: usize },
 }
 
-impl WireFault {
-    pub fn number(&self) -> u8
-        ensures { result ≡ number self.now }
-    {
-        match self {
-            WireFault::Room => 4,
-            WireFault::Short { .. } => 9,
-            WireFault::Field { .. } => 9,
-            WireFault::Shape { .. } => 10,
-            WireFault::Entry { .. } => 13,
-        }
-    }
+impl Fault for WireFault {
+    ghost number_of = { number };
 
-    pub fn place(&self) -> usize
-        ensures { result ≡ place self.now }
-    {
+    ghost place_of = { place };
+
+    ghost words_of = { words };
+
+    fn refusal(&self) -> Refusal {
         match *self {
-            WireFault::Room => 0,
-            WireFault::Short { length } => length,
-            WireFault::Field { at } => at,
-            WireFault::Shape { at } => at,
-            WireFault::Entry { index } => index,
-        }
-    }
-
-    // What is wrong, in words.
-    pub fn words(&self) -> &'static str
-        ensures { result.now ≡ words self.now }
-    {
-        match self {
-            WireFault::Room => "the buffer is shorter than the message",
-            WireFault::Short { .. } => "the message is shorter than a header",
-            WireFault::Field { .. } => "a field of the header is wrong",
-            WireFault::Shape { .. } => "the rows or the columns differ from the sizes",
-            WireFault::Entry { .. } => "an entry or a hint is out of range",
+            WireFault::Room => Refusal::new(4, "the buffer is shorter than the message"),
+            WireFault::Short { length } => {
+                Refusal::at(9, length, "the message is shorter than a header")
+            }
+            WireFault::Field { at } => Refusal::at(9, at, "a field of the header is wrong"),
+            WireFault::Shape { at } => {
+                Refusal::at(10, at, "the rows or the columns differ from the sizes")
+            }
+            WireFault::Entry { index } => {
+                Refusal::at(13, index, "an entry or a hint is out of range")
+            }
         }
     }
 }
@@ -62,7 +48,7 @@ impl fmt::Display for WireFault {
     ghost output = { λ fault. Some (words fault) };
 
     fn fmt<W: fmt::Write>(&self, f: &mut fmt::Formatter<W>) -> fmt::Result {
-        write!(f, "{}", self.words())
+        f.write_str(self.words())
     }
 }
 

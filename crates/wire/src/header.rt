@@ -1,16 +1,16 @@
 // The header of a message: eight numbers.
 ghost use Rattle.std.specs.Prelude.{◌≡◌};
 ghost use Rattle.lwe.specs.Limits.{dimensions};
-ghost use Rattle.wire.specs.Faults.{Verdict};
+ghost use Rattle.wire.specs.Faults.{Verdict, first_unless};
 ghost use Rattle.wire.specs.Headers.{header, fields, header_of, short_fault, field_fault};
 
-use crate::bytes::word;
 use crate::fault::WireFault;
 use crate::kind::Kind;
 use lwe::sizes::Sizes;
 
 #[derive(Clone, Copy)]
 pub struct Header {
+    // The number of a kind, or any other where a message is wrong.
     pub kind: u16,
     // The session's.
     pub number: u16,
@@ -30,28 +30,20 @@ impl Header {
         ensures { result ≡ header (dimensions sizes.now) kind number }
     {
         let Sizes { n, la, lb, .. } = *sizes;
-        let length = kind.length(sizes);
-        match kind {
-            Kind::Offer => Header {
-                kind: 1,
-                number,
-                rows: n as u16,
-                columns: la as u16,
-                first: 16,
-                second: 48,
-                hints: 0,
-                length: length as u16,
-            },
-            Kind::Answer => Header {
-                kind: 2,
-                number,
-                rows: n as u16,
-                columns: lb as u16,
-                first: 16,
-                second: (16 + 2 * (n * lb)) as u16,
-                hints: (la * lb) as u16,
-                length: length as u16,
-            },
+        let (columns, second, hints) = match kind {
+            Kind::Offer => (la, 48, 0),
+            Kind::Answer => (lb, 16 + 2 * (n * lb), la * lb),
+        };
+        // The check proves that each cast keeps its number; `try_from` would make an error that never comes.
+        Header {
+            kind: u16::from(kind),
+            number,
+            rows: n as u16,
+            columns: columns as u16,
+            first: 16,
+            second: second as u16,
+            hints: hints as u16,
+            length: kind.length(sizes) as u16,
         }
     }
 
@@ -75,6 +67,7 @@ impl Header {
     pub(crate) fn read(message: &[u8]) -> Result<Header, WireFault>
         ensures { Verdict (short_fault message.now) result (λ h. h ≡ header_of message.now) }
     {
+        // Sixteen names, so that no byte is read by an index.
         let [
             k1,
             k0,
@@ -100,14 +93,14 @@ impl Header {
             });
         };
         Ok(Header {
-            kind: word(*k1, *k0),
-            number: word(*s1, *s0),
-            rows: word(*r1, *r0),
-            columns: word(*c1, *c0),
-            first: word(*a1, *a0),
-            second: word(*b1, *b0),
-            hints: word(*h1, *h0),
-            length: word(*l1, *l0),
+            kind: u16::from_be_bytes([*k1, *k0]),
+            number: u16::from_be_bytes([*s1, *s0]),
+            rows: u16::from_be_bytes([*r1, *r0]),
+            columns: u16::from_be_bytes([*c1, *c0]),
+            first: u16::from_be_bytes([*a1, *a0]),
+            second: u16::from_be_bytes([*b1, *b0]),
+            hints: u16::from_be_bytes([*h1, *h0]),
+            length: u16::from_be_bytes([*l1, *l0]),
         })
     }
 
@@ -115,30 +108,29 @@ impl Header {
     pub(crate) fn check(&self, due: &Header, size: usize) -> Result<(), WireFault>
         ensures { Verdict (field_fault self.now due.now size) result (λ _. size ≡ due.now.length) }
     {
-        if self.kind != due.kind {
-            return Err(WireFault::Field { at: 0 });
-        }
-        if self.number == 0 {
-            return Err(WireFault::Field { at: 2 });
-        }
-        if self.rows != due.rows {
-            return Err(WireFault::Shape { at: 4 });
-        }
-        if self.columns != due.columns {
-            return Err(WireFault::Shape { at: 6 });
-        }
-        if self.first != due.first {
-            return Err(WireFault::Field { at: 8 });
-        }
-        if self.second != due.second {
-            return Err(WireFault::Field { at: 10 });
-        }
-        if self.hints != due.hints {
-            return Err(WireFault::Field { at: 12 });
-        }
-        if self.length != due.length || size != due.length as usize {
-            return Err(WireFault::Field { at: 14 });
-        }
-        Ok(())
+        first_wrong(&[
+            (self.kind == due.kind, WireFault::Field { at: 0 }),
+            (self.number != 0, WireFault::Field { at: 2 }),
+            (self.rows == due.rows, WireFault::Shape { at: 4 }),
+            (self.columns == due.columns, WireFault::Shape { at: 6 }),
+            (self.first == due.first, WireFault::Field { at: 8 }),
+            (self.second == due.second, WireFault::Field { at: 10 }),
+            (self.hints == due.hints, WireFault::Field { at: 12 }),
+            (self.length == due.length, WireFault::Field { at: 14 }),
+            (size == usize::from(due.length), WireFault::Field { at: 14 }),
+        ])
     }
+}
+
+// The fault of the first field that is not right. Beside each stands whether it is, as a result of each would be made only to be
+// taken apart.
+fn first_wrong(fields: &[(bool, WireFault)]) -> Result<(), WireFault>
+    ensures { Verdict (first_unless fields.now) result (λ _. Unit {0}) }
+{
+    for (right, fault) in fields {
+        if !*right {
+            return Err(*fault);
+        }
+    }
+    Ok(())
 }

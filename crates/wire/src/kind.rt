@@ -1,16 +1,26 @@
 // The two kinds of messages.
 ghost use Rattle.std.specs.Prelude.{◌≡◌};
 ghost use Rattle.lwe.specs.Limits.{dimensions};
-ghost use Rattle.wire.specs.Headers.{message_length};
+ghost use Rattle.wire.specs.Headers.{kind_number, message_length};
 
 use lwe::sizes::Sizes;
 
 #[derive(Clone, Copy, PartialEq, Eq, Debug)]
 pub enum Kind {
     // A seed and the entries of Y1.
-    Offer,
+    Offer = 1,
     // The entries of Y2 and the hints.
-    Answer,
+    Answer = 2,
+}
+
+// The number that stands for a kind in a message.
+impl From<Kind> for u16 {
+    ghost from_gives = { λ kind r. r ≡ kind_number kind };
+
+    fn from(kind: Kind) -> u16 {
+        // the numbers stand in the type
+        kind as u16
+    }
 }
 
 impl Kind {

@@ -30,7 +30,8 @@ pub struct Answer<'a> {
     pub hints: Numbers<'a>,
 }
 
-// The session's number of a message whose length and header are those due.
+// The session's number of a message whose length and header are those due. Sizes and kind stay two parameters, here and
+// elsewhere: a struct of both would be made at each call for that call alone.
 fn read_header(sizes: &Sizes, kind: Kind, message: &[u8]) -> Result<u16, WireFault>
     ensures { Verdict (header_fault (dimensions sizes.now) kind message.now) result (λ number. (number ≡ number_at message.now 2) × (length message.now ≡ message_length (dimensions sizes.now) kind)) }
 {
@@ -45,14 +46,11 @@ pub fn read_offer<'a>(sizes: &Sizes, message: &'a [u8]) -> Result<Offer<'a>, Wir
     ensures { Read (dimensions sizes.now) Kind.Offer message.now offered result }
 {
     let number = read_header(sizes, Kind::Offer, message)?;
-    let mut seed = [0; 32];
-    seed.copy_from_slice(&message[16..48]);
+    let (seed, entries) = message[16..].split_first_chunk().unwrap();
     Ok(Offer {
         number,
-        seed,
-        entries: Numbers {
-            bytes: &message[48..],
-        },
+        seed: *seed,
+        entries: Numbers::new(entries),
     })
 }
 
@@ -61,15 +59,11 @@ pub fn read_answer<'a>(sizes: &Sizes, message: &'a [u8]) -> Result<Answer<'a>, W
     ensures { Read (dimensions sizes.now) Kind.Answer message.now answered result }
 {
     let number = read_header(sizes, Kind::Answer, message)?;
-    let middle = 16 + 2 * (sizes.n * sizes.lb);
+    let (entries, hints) = message[16..].split_at(2 * (sizes.n * sizes.lb));
     Ok(Answer {
         number,
-        entries: Numbers {
-            bytes: &message[16..middle],
-        },
-        hints: Numbers {
-            bytes: &message[middle..],
-        },
+        entries: Numbers::new(entries),
+        hints: Numbers::new(hints),
     })
 }
 

@@ -1,6 +1,7 @@
 // Writes messages.
 ghost use Rattle.lwe.specs.Limits.{dimensions};
-ghost use Rattle.wire.specs.Messages.{message, offer, answer, Sized, Written};
+ghost use Rattle.wire.specs.Messages.{offer, answer, Sized, Written};
+ghost use Rattle.wire.specs.Views.{stated};
 ghost use Rattle.std.specs.Prelude.{◌*◌, take};
 
 use crate::bytes::{put_bytes, put_numbers};
@@ -9,32 +10,39 @@ use crate::header::Header;
 use crate::kind::Kind;
 use lwe::sizes::Sizes;
 
-// Writes a message of either kind at the front of `out`, and says how long it is.
-fn write(
-    sizes: &Sizes,
+// What a message states. An offer has no hints, and an answer no seed.
+#[derive(Clone, Copy)]
+struct Parts<'a> {
     kind: Kind,
+    // The session's.
     number: u16,
-    seed: &[u8],
-    entries: &[u16],
-    hints: &[u16],
-    out: &mut [u8],
-) -> Result<usize, WireFault>
-    requires { Sized (dimensions sizes.now) kind (message number seed.now entries.now hints.now) }
-    ensures { Written (dimensions sizes.now) kind (message number seed.now entries.now hints.now) out.old out.new result }
-{
-    let length = kind.length(sizes);
-    if out.len() < length {
-        return Err(WireFault::Room);
+    seed: &'a [u8],
+    entries: &'a [u16],
+    hints: &'a [u16],
+}
+
+impl Parts<'_> {
+    // Writes the message at the front of `out`, and says how long it is.
+    fn write(&self, sizes: &Sizes, out: &mut [u8]) -> Result<usize, WireFault>
+        requires { Sized (dimensions sizes.now) self.now.kind (stated self.now) }
+        ensures { Written (dimensions sizes.now) self.now.kind (stated self.now) out.old out.new result }
+    {
+        let length = self.kind.length(sizes);
+        if out.len() < length {
+            return Err(WireFault::Room);
+        }
+        let header = Header::due(sizes, self.kind, self.number);
+        let body = 16 + self.seed.len();
+        put_numbers(out, 0, &header.fields());
+        put_bytes(out, 16, self.seed);
+        put_numbers(out, body, self.entries);
+        put_numbers(out, body + 2 * self.entries.len(), self.hints);
+        Ok(length)
     }
-    let body = 16 + seed.len();
-    put_numbers(out, 0, &Header::due(sizes, kind, number).fields());
-    put_bytes(out, 16, seed);
-    put_numbers(out, body, entries);
-    put_numbers(out, body + 2 * entries.len(), hints);
-    Ok(length)
 }
 
 // Writes an offer at the front of `out`, and says how long it is. The first n * la numbers of `y1` are its entries.
+// Five parameters, here and below: a struct of what is written would be made for this call and taken apart in it.
 pub fn write_offer(
     sizes: &Sizes,
     number: u16,
@@ -44,8 +52,14 @@ pub fn write_offer(
 ) -> Result<usize, WireFault>
     ensures { Written (dimensions sizes.now) Kind.Offer (offer number seed.now (take (sizes.now.n * sizes.now.la) y1.now)) out.old out.new result }
 {
-    let entries = &y1[..sizes.n * sizes.la];
-    write(sizes, Kind::Offer, number, seed, entries, &[], out)
+    let parts = Parts {
+        kind: Kind::Offer,
+        number,
+        seed,
+        entries: &y1[..sizes.n * sizes.la],
+        hints: &[],
+    };
+    parts.write(sizes, out)
 }
 
 // Writes an answer at the front of `out`, and says how long it is. The first n * lb numbers of `y2` are its entries,
@@ -59,7 +73,12 @@ pub fn write_answer(
 ) -> Result<usize, WireFault>
     ensures { Written (dimensions sizes.now) Kind.Answer (answer number (take (sizes.now.n * sizes.now.lb) y2.now) (take (sizes.now.la * sizes.now.lb) hints.now)) out.old out.new result }
 {
-    let entries = &y2[..sizes.n * sizes.lb];
-    let hints = &hints[..sizes.la * sizes.lb];
-    write(sizes, Kind::Answer, number, &[], entries, hints, out)
+    let parts = Parts {
+        kind: Kind::Answer,
+        number,
+        seed: &[],
+        entries: &y2[..sizes.n * sizes.lb],
+        hints: &hints[..sizes.la * sizes.lb],
+    };
+    parts.write(sizes, out)
 }

@@ -7,8 +7,8 @@ ghost use Rattle.consensus.specs.AkcnValues;
 
 use crate::akcn::Akcn;
 use crate::arithmetic::{floor_mod, round};
-use crate::distance::distance_of;
 use crate::fault::RuleFault;
+use crate::numbers::Numbers;
 use crate::rule::Rule;
 
 impl Akcn {
@@ -17,8 +17,8 @@ impl Akcn {
         ensures answer { means akcn_of result ≡ akcn_built q m g }
         ensures exactly { Built q m g (akcn_bound q m g) (means akcn_of result) }
     {
-        let d = distance_of(q, m, g, m)?;
-        Ok(Akcn { q, m, g, d })
+        let numbers = Numbers::new(q, m, g, m)?;
+        Ok(Akcn { numbers })
     }
 }
 
@@ -27,47 +27,33 @@ impl Rule for Akcn {
 
     ghost lawful = { λ r. AkcnValues.lawful r };
 
-    fn modulus(&self) -> u32 {
-        self.q
-    }
-
-    fn digits(&self) -> u32 {
-        self.m
-    }
-
-    fn hints(&self) -> u32 {
-        self.g
-    }
-
-    fn distance(&self) -> u32 {
-        self.d
-    }
-
-    fn draws(&self) -> u32 {
-        self.m
+    fn numbers(&self) -> Numbers {
+        self.numbers
     }
 
     fn settle(&self, sum: u16, draw: u16) -> Result<(u16, u16), RuleFault> {
-        if sum as u32 >= self.q {
-            return Err(RuleFault::Range);
-        }
-        if draw as u32 >= self.m {
-            return Err(RuleFault::Draw);
-        }
-        let shift = round(self.q * draw as u32, self.m);
-        let hint = round(self.g * (sum as u32 + shift), self.q) % self.g;
+        self.numbers.check_settling(sum, draw)?;
+        let Numbers {
+            modulus: q,
+            digits: m,
+            hints: g,
+            ..
+        } = self.numbers;
+        let shift = round(q * u32::from(draw), m);
+        let hint = round(g * (u32::from(sum) + shift), q) % g;
+        // Proved to fit: `try_from` would make an error that never comes.
         Ok((draw, hint as u16))
     }
 
+    #[tactic(auto, using(crate::specs::AkcnAgreement::akcn_recover_is))]
     fn recover(&self, sum: u16, hint: u16) -> Result<u16, RuleFault> {
-        if sum as u32 >= self.q || hint as u32 >= self.g {
-            return Err(RuleFault::Range);
-        }
-        let q = self.q as u64;
-        let m = self.m as u64;
-        let g = self.g as u64;
-        let up = 2 * m * hint as u64 * q + g * q;
-        let down = 2 * m * g * sum as u64;
-        Ok(floor_mod(up, down, 2 * g * q, self.m) as u16)
+        self.numbers.check_recovering(sum, hint)?;
+        let q = u64::from(self.numbers.modulus);
+        let m = u64::from(self.numbers.digits);
+        let g = u64::from(self.numbers.hints);
+        let up = 2 * m * u64::from(hint) * q + g * q;
+        let down = 2 * m * g * u64::from(sum);
+        // Proved to fit, as above.
+        Ok(floor_mod(up, down, 2 * g * q, self.numbers.digits) as u16)
     }
 }

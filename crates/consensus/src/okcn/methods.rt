@@ -6,8 +6,8 @@ ghost use Rattle.consensus.specs.Rules.{okcn_bound};
 ghost use Rattle.consensus.specs.OkcnValues;
 
 use crate::arithmetic::{difference_mod, floor_mod, gcd};
-use crate::distance::distance_of;
 use crate::fault::RuleFault;
+use crate::numbers::Numbers;
 use crate::okcn::Okcn;
 use crate::rule::Rule;
 
@@ -17,9 +17,11 @@ impl Okcn {
         ensures answer { means okcn_of result ≡ okcn_built q m g }
         ensures exactly { Built q m g (okcn_bound q g) (means okcn_of result) }
     {
-        let d = distance_of(q, m, g, 1)?;
-        let c = m / gcd(q, m);
-        Ok(Okcn { q, m, g, d, c })
+        let numbers = Numbers::new(q, m, g, 1)?;
+        let draws = m / gcd(q, m);
+        Ok(Okcn {
+            numbers: Numbers { draws, ..numbers },
+        })
     }
 }
 
@@ -28,51 +30,36 @@ impl Rule for Okcn {
 
     ghost lawful = { λ r. OkcnValues.lawful r };
 
-    fn modulus(&self) -> u32 {
-        self.q
-    }
-
-    fn digits(&self) -> u32 {
-        self.m
-    }
-
-    fn hints(&self) -> u32 {
-        self.g
-    }
-
-    fn distance(&self) -> u32 {
-        self.d
-    }
-
-    fn draws(&self) -> u32 {
-        self.c
+    fn numbers(&self) -> Numbers {
+        self.numbers
     }
 
     fn settle(&self, sum: u16, draw: u16) -> Result<(u16, u16), RuleFault> {
-        let sum = sum as u32;
-        let draw = draw as u32;
-        if sum >= self.q {
-            return Err(RuleFault::Range);
-        }
-        if draw >= self.c {
-            return Err(RuleFault::Draw);
-        }
-        let width = self.c * self.q / self.m;
-        let point = difference_mod(self.c * sum + draw, (self.c - 1) / 2, self.c * self.q);
+        self.numbers.check_settling(sum, draw)?;
+        let Numbers {
+            modulus: q,
+            digits: m,
+            hints: g,
+            draws: c,
+            ..
+        } = self.numbers;
+        let width = c * q / m;
+        let point = difference_mod(c * u32::from(sum) + u32::from(draw), (c - 1) / 2, c * q);
         let digit = point / width;
-        let hint = point % width * self.g / width;
+        let hint = point % width * g / width;
+        // Proved to fit: `try_from` would make an error that never comes.
         Ok((digit as u16, hint as u16))
     }
 
+    #[tactic(auto, using(crate::specs::OkcnAgreement::okcn_recover_is))]
     fn recover(&self, sum: u16, hint: u16) -> Result<u16, RuleFault> {
-        if sum as u32 >= self.q || hint as u32 >= self.g {
-            return Err(RuleFault::Range);
-        }
-        let q = self.q as u64;
-        let m = self.m as u64;
-        let g = self.g as u64;
-        let up = 2 * g * m * sum as u64 + g * q;
-        let down = (2 * hint as u64 + 1) * q;
-        Ok(floor_mod(up, down, 2 * g * q, self.m) as u16)
+        self.numbers.check_recovering(sum, hint)?;
+        let q = u64::from(self.numbers.modulus);
+        let m = u64::from(self.numbers.digits);
+        let g = u64::from(self.numbers.hints);
+        let up = 2 * g * m * u64::from(sum) + g * q;
+        let down = (2 * u64::from(hint) + 1) * q;
+        // Proved to fit, as above.
+        Ok(floor_mod(up, down, 2 * g * q, self.numbers.digits) as u16)
     }
 }

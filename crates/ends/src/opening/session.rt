@@ -1,23 +1,28 @@
-// The steps of an opening end's sessions, once nothing is left to refuse.
-ghost use Rattle.std.specs.Prelude.{◌≡◌, ℕ, ◌*◌, ◌^◌, ◌<◌, true, length, slice_index};
-ghost use Rattle.noise.specs.Laws.{width_of};
-ghost use Rattle.noise.specs.Replies.{number_of};
-ghost use Rattle.ends.specs.OpeningStates.{blank, opened, keyed};
+// What the steps of an opening end's sessions leave, once nothing is left to refuse.
+ghost use Rattle.std.specs.Prelude.{◌≡◌, ℕ, ◌*◌, ◌<◌, true, None, length, slice_index};
+ghost use Rattle.ends.specs.Draws.{draw_fault};
+ghost use Rattle.ends.specs.Ends.{KeptWorks, setting};
+ghost use Rattle.ends.specs.OpeningStates.{blank, forgotten, key_of, opened, keyed};
+ghost use Rattle.ends.specs.Settings.{open_needs};
 
 use crate::draws::sample;
 use crate::opening::{OpeningPhase, OpeningState};
 use crate::places::recover_places;
+use crate::session::Session;
+use crate::works::Works;
 use consensus::rule::Rule;
 use lwe::images::opening_image;
-use lwe::sizes::Sizes;
 use lwe::sums::opening_sum;
 use matrix::source::MatrixSource;
-use noise::law::NoiseLaw;
 
-impl OpeningState {
-    pub(crate) fn new() -> OpeningState
-        ensures { result ≡ blank 0 }
-    {
+impl Session for OpeningState {
+    ghost fresh = { blank 0 };
+
+    ghost forgotten = { forgotten };
+
+    ghost key_of = { key_of };
+
+    fn new() -> OpeningState {
         OpeningState {
             phase: OpeningPhase::Idle,
             number: 0,
@@ -29,10 +34,7 @@ impl OpeningState {
         }
     }
 
-    // Nothing is left of the session but its number.
-    pub(crate) fn forget(&mut self)
-        ensures { self.new ≡ blank self.old.number }
-    {
+    fn forget(&mut self) {
         self.phase = OpeningPhase::Idle;
         self.seed.fill(0);
         self.secret.fill(0);
@@ -41,27 +43,35 @@ impl OpeningState {
         self.noise.fill(0);
     }
 
-    // Opens the session `number`: X1 and E1 are drawn by the words, and Y1 is worked out from them.
-    pub(crate) fn open<S: MatrixSource>(
+    fn key(&self) -> Option<&[u16; 64]> {
+        match self.phase {
+            OpeningPhase::Idle | OpeningPhase::Waiting => None,
+            OpeningPhase::Keyed => Some(&self.digits),
+        }
+    }
+}
+
+impl OpeningState {
+    // Opens the session `number`: X1 and E1 are drawn by the words, and Y1 is worked out from them. Number, seed and words come from
+    // three places, and meet here alone.
+    pub(crate) fn open<R: Rule, S: MatrixSource>(
         &mut self,
-        sizes: &Sizes,
-        source: &mut S,
-        law: &NoiseLaw,
+        works: &mut Works<'_, R, S>,
         number: u16,
         seed: &[u8; 32],
         words: &[u16],
     )
-        requires side { (S.MatrixSource.meaning source.old).side ≡ sizes.now.n }
-        requires known { (S.MatrixSource.meaning source.old).known seed.now ≡ true }
-        requires count { length words.now ≡ 2 * (sizes.now.n * sizes.now.la) }
-        requires below { (k : ℕ) → k < length words.now → slice_index words.now k < 2 ^ width_of (number_of law.now) }
-        ensures state { self.new ≡ opened sizes.now.q sizes.now.n sizes.now.la (S.MatrixSource.meaning source.old) (number_of law.now) number seed.now words.now }
-        ensures source { S.MatrixSource.meaning source.new ≡ S.MatrixSource.meaning source.old }
+        requires known { (S.MatrixSource.meaning works.old.source).known seed.now ≡ true }
+        requires words { draw_fault (open_needs (setting R.Rule.meaning S.MatrixSource.meaning works.old)) words.now ≡ None }
+        ensures state { self.new ≡ opened (setting R.Rule.meaning S.MatrixSource.meaning works.old) number seed.now words.now }
+        ensures works { KeptWorks S.MatrixSource.meaning works.old works.new }
     {
+        let sizes = works.sizes();
         let (secret, noise) = words.split_at(sizes.n * sizes.la);
-        sample(law, secret, &mut self.secret);
-        sample(law, noise, &mut self.noise);
-        self.image = opening_image(sizes, source, seed, &self.secret, &self.noise).unwrap();
+        sample(&works.law, secret, &mut self.secret);
+        sample(&works.law, noise, &mut self.noise);
+        let source = &mut works.source;
+        self.image = opening_image(&sizes, source, seed, &self.secret, &self.noise).unwrap();
         self.noise.fill(0);
         self.digits.fill(0);
         self.seed = *seed;
@@ -70,15 +80,19 @@ impl OpeningState {
     }
 
     // Takes an answer in: each digit is recovered from a sum and its hint.
-    pub(crate) fn key<R: Rule>(&mut self, sizes: &Sizes, rule: &R, y2: &[u16; 8192], hints: &[u16])
-        requires modulus { sizes.now.q ≡ (R.Rule.meaning rule.now).modulus }
-        requires count { length hints.now ≡ sizes.now.la * sizes.now.lb }
-        requires below { (k : ℕ) → k < length hints.now → slice_index hints.now k < (R.Rule.meaning rule.now).hints }
-        ensures { self.new ≡ keyed sizes.now.n sizes.now.la sizes.now.lb (R.Rule.meaning rule.now) y2.now hints.now self.old }
+    pub(crate) fn key_by<R: Rule, S: MatrixSource>(
+        &mut self,
+        works: &Works<'_, R, S>,
+        y2: &[u16; 8192],
+        hints: &[u16],
+    )
+        requires count { length hints.now ≡ works.now.la * works.now.lb }
+        requires below { (k : ℕ) → k < length hints.now → slice_index hints.now k < (R.Rule.meaning works.now.rule.now).hints }
+        ensures { self.new ≡ keyed (setting R.Rule.meaning S.MatrixSource.meaning works.now) y2.now hints.now self.old }
     {
-        let sums = opening_sum(sizes, &self.secret, y2);
-        let places = sizes.la * sizes.lb;
-        recover_places(rule, &sums[0..places], hints, &mut self.digits);
+        let sums = opening_sum(&works.sizes(), &self.secret, y2);
+        let sums = &sums[0..works.places()];
+        recover_places(works.rule, sums, hints, &mut self.digits);
         self.phase = OpeningPhase::Keyed;
     }
 }

@@ -4,8 +4,8 @@ ghost use Rattle.matrix.specs.Expanding.{expanding_of, expanding_row, expanding_
 ghost use Rattle.matrix.specs.Expansion.{expansion_built};
 ghost use Rattle.matrix.specs.Replies.{means};
 
-use crate::expanding::ExpandingSource;
-use crate::expansion::{expand, exponent};
+use crate::expanding::{ExpandedRow, ExpandingSource};
+use crate::expansion::Shape;
 use crate::fault::SourceFault;
 use crate::source::MatrixSource;
 
@@ -15,19 +15,8 @@ impl ExpandingSource {
         ensures answer { means expanding_of result ≡ expansion_built n q }
         ensures unturned { IfOk result (λ source. expanding_row source ≡ None) }
     {
-        if n < 1 || n > 1024 {
-            return Err(SourceFault::Shape);
-        }
-        let Some(bits) = exponent(q) else {
-            return Err(SourceFault::Shape);
-        };
-        Ok(ExpandingSource {
-            n,
-            bits,
-            seed: [0; 32],
-            row: None,
-            entries: [0; 1024],
-        })
+        let shape = Shape::new(n, q)?;
+        Ok(ExpandingSource { shape, row: None })
     }
 }
 
@@ -36,35 +25,36 @@ impl MatrixSource for ExpandingSource {
 
     ghost turned = { expanding_row };
 
-    ghost sound = { expanding_sound };
-
     fn side(&self) -> usize {
-        self.n
+        self.shape.n
     }
 
     fn modulus(&self) -> u32 {
-        1 << self.bits
+        1 << self.shape.bits
     }
 
     fn turn(&mut self, seed: &[u8; 32], row: usize) -> Result<(), SourceFault> {
-        if row >= self.n {
+        if row >= self.shape.n {
             return Err(SourceFault::Row);
         }
-        let row = row as u16;
-        let entries = expand(self.n, self.bits, seed, row);
-        self.seed = *seed;
-        self.row = Some(row);
-        self.entries = entries;
+        // `u16::try_from` would want an answer for rows that do not get here.
+        let number = row as u16;
+        let entries = self.shape.expand(seed, number);
+        self.row = Some(ExpandedRow {
+            seed: *seed,
+            number,
+            entries,
+        });
         Ok(())
     }
 
     fn column(&self, j: usize) -> Result<u16, SourceFault> {
-        let Some(_row) = self.row else {
-            return Err(SourceFault::NotTurned);
-        };
-        if j >= self.n {
+        let row = self.row.as_ref().ok_or(SourceFault::NotTurned)?;
+        if j >= self.shape.n {
             return Err(SourceFault::Column);
         }
-        Ok(self.entries[j])
+        Ok(row.entries[j])
     }
+
+    ghost sound = { expanding_sound };
 }

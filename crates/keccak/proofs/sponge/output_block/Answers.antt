@@ -1,25 +1,16 @@
-use Rattle.std.proofs.Common.{◌≡◌, ◌+◌, ◌-◌, ◌*◌, ◌<◌, [], length, get_or, take, ap, ◌∙◌, arith, rules}
-use Rattle.std.proofs.lemmas.List.{places, take_more, take_all, flat_map_more}
-use Rattle.std.proofs.lemmas.Slice.{take-put_mid}
-use Rattle.keccak.specs.Sponge.{to_bytes, output_block}
-use Rattle.keccak.proofs.Bytes.{to_bytes_is}
+use Rattle.std.proofs.Common.{◌≡◌, map, length, take, sym, ap, ◌∙◌, arith}
+use Rattle.std.proofs.lemmas.List.{length-map, length-take-le, get_or-map, get_or-take, same_lists}
+use Rattle.keccak.specs.Sponge.{to_bytes}
 use Rattle.keccak.proofs.sponge.output_block.Goals as goal
 
-pub loop-k-preserved : goal.loop-k-preserved
-loop-k-preserved c =
-    let s = c.args.state in
-    let k = c.loop-k.k in
-    let lane = get_or s k 0 in
-    let part = c.copy_from_slice.new.self in
-    let inside : k < length s = search rules in
-    let is : part ≡ to_bytes 8 lane = c.copy_from_slice.ensures.after ∙ (c.to_le_bytes.ensures ∙ to_bytes_is lane) in
-    let long : length part ≡ 8 = ap length is in
-    let more = take_more s k 0 inside in
-    let written = take-put_mid (8 * k) (8 * k + 8 - 8 * k) c.loop-k.block part (8 * (k + 1)) (omega arith) (omega arith) in
-    (search (rules, places), cc (flat_map_more (to_bytes 8) [] (take k s) lane))
-
 pub returns : goal.returns
-unfolding output_block
 returns c =
-    let e : c.loop-k.k ≡ 21 = omega arith in
-    cc (take_all (8 * c.loop-k.k) c.loop-k.block (omega arith))
+    let s = c.args.state in
+    let f = to_bytes 8 in
+    let front = take 21 s in
+    let long : length front ≡ 21 = length-take-le 21 s (omega arith) in
+    let items = c.loop-k.bytes-items in
+    same_lists items (map f front) (c.loop-k.invariant.0 ∙ sym (length-map front f ∙ long)) (λ k d below.
+    c.loop-k.invariant.1 k d (omega arith)
+    ∙ ap f (sym (get_or-take 21 s k 0 (omega arith)))
+    ∙ sym (get_or-map f front k 0 d (omega arith)))

@@ -1,7 +1,7 @@
-use Rattle.std.proofs.Common.{◌≡◌, ◌*◌, length, take}
-use Rattle.std.specs.List.{flat_map}
-use Rattle.keccak.specs.Sponge.{rate, to_bytes}
+use Rattle.std.proofs.Common.{◌≡◌, ℕ, ◌<◌, List, length, get_or}
+use Rattle.keccak.specs.Sponge.{to_bytes}
 use Rattle.keccak.proofs.sponge.output_block.Given as goal
 
 abbrev pub invariant-loop-k : goal.invariant-loop-k
-invariant-loop-k l = (length l.block ≡ rate) × (take (8 * l.k) l.block ≡ flat_map (to_bytes 8) (take l.k l.state))
+invariant-loop-k l =
+    (length l.bytes-items ≡ 21) × ((j : ℕ) (d : List ℕ) → j < l.k → get_or l.bytes-items j d ≡ to_bytes 8 (get_or l.state j 0))

@@ -1,21 +1,17 @@
-use Rattle.std.proofs.Common.{◌≡◌, ℕ, suc, ◌+◌, ◌-◌, ◌*◌, ◌/◌, ◌<◌, ◌≤◌, List, [], ◌∷◌, ◌++◌, length, take, drop, sym, refl, ap, ◌∙◌, append_assoc, arith, rules}
+use Rattle.std.proofs.Common.{◌≡◌, ℕ, suc, ◌+◌, ◌-◌, ◌*◌, ◌/◌, ◌<◌, ◌≤◌, List, [], ◌++◌, length, take, drop, sym, refl, ap, ◌∙◌, append_assoc, arith, rules}
 use lib.Seq.{take-append-add}
 use borrow.Rule.Slice.PartMut.{put_mid}
 use Rattle.std.proofs.lemmas.List.{append-nil, drop_all, length-drop, length-take, length-take-le, nil_from_length, take_all}
 use Rattle.std.proofs.lemmas.Slice.{take-put_mid}
 use Rattle.std.proofs.lemmas.Bool.{eqb-true}
-use Rattle.std.specs.List.{flat_map}
 use Rattle.keccak.specs.Permutation.{permute}
-use Rattle.keccak.specs.Sponge.{rate, to_bytes, absorb, output_block, squeeze, shake128}
+use Rattle.keccak.specs.Sponge.{rate, absorb, output_block, squeeze, shake128}
+use Rattle.keccak.proofs.Bytes.{length_bytes}
 use Rattle.keccak.proofs.sponge.shake128.Goals as goal
-
-length_joined : (s : List ℕ) → length (flat_map (to_bytes 8) s) ≡ 8 * length s
-length_joined [] = refl
-length_joined (lane ∷ s) = omega (arith, length_joined s)
 
 length_output : (s : List ℕ) → length (output_block s) ≤ rate
 unfolding output_block
-length_output s = omega (arith, length_joined (take 21 s), length-take 21 s)
+length_output s = omega (arith, length_bytes (take 21 s), length-take 21 s)
 
 -- block i of n + 1
 squeeze_more : (n i : ℕ) (s : List ℕ) → i ≤ n → squeeze (n + 1 - i) s ≡ output_block s ++ squeeze (n + 1 - (i + 1)) (permute s)
@@ -46,11 +42,6 @@ returns-then-is_empty c =
     let out = c.args.out.now in
     let none : length out ≡ 0 = eqb-true (length out) 0 (sym c.if-is_empty.ensures) in
     nil_from_length out none ∙ ap (shake128 c.args.message.now) (sym none)
-
-pub loop-i-init : goal.loop-i-init
-loop-i-init c =
-    let e : (length c.args.out.now - 1) / rate + 1 - 0 ≡ (length c.args.out.now - 1) / rate + 1 = omega arith in
-    rw e
 
 pub loop-i-preserved : goal.loop-i-preserved
 loop-i-preserved c =

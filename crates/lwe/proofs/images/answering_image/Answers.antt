@@ -1,19 +1,15 @@
-use Rattle.std.proofs.Common.{◌≡◌, ℕ, ◌+◌, ◌*◌, ◌<◌, length, get_or, pos, sym, refl, ap, ◌∙◌, arith}
+use Rattle.std.proofs.Common.{◌≡◌, ◌+◌, ◌*◌, ◌^◌, get_or, pos, sym, refl, ◌∙◌, arith}
 use Rattle.std.proofs.lemmas.List.Edits.{length-between, get_or-between}
-use Rattle.matrix.specs.Matrices.{Matrices}
 use Rattle.lwe.specs.Exchange.{Y2}
 use Rattle.lwe.specs.Images.{public_matrix}
 use Rattle.lwe.specs.Matrices.{signed}
 use Rattle.lwe.proofs.Places.{row_ends, get_or_same}
-use Rattle.lwe.proofs.Rows.{walked_none, walked_more}
+use Rattle.lwe.proofs.Rows.{row_entries, walked_none, walked_more}
 use Rattle.lwe.proofs.Steps.{sums_entry, image_same, imaged}
 use Rattle.lwe.proofs.images.answering_image.Goals as goal
 
 pub loop-i-init : goal.loop-i-init
 loop-i-init g c = (walked_none _ _ _, refl, λ k h j m. get_or_same 8192 (k * c.args.sizes.now.n + j) (pos 0), λ k. rw (get_or_same 8192 k (pos 0)) (omega arith))
-
-pub slice_bounds-add_row-end-in-loop-i : goal.slice_bounds-add_row-end-in-loop-i
-slice_bounds-add_row-end-in-loop-i g c = omega (arith, row_ends c.loop-i.i c.args.sizes.now.n c.args.sizes.now.lb (omega arith))
 
 pub loop-i-preserved : goal.loop-i-preserved
 loop-i-preserved g c =
@@ -25,16 +21,14 @@ loop-i-preserved g c =
     let walked = c.loop-i.invariant.0 in
     let ends = row_ends i n l (omega arith) in
     let row = c.read_row.new.row in
-    let rows : length row ≡ n = omega arith in
     let across = length-between c.args.x2.now (i * l) (i * l + l) (omega arith) in
-    let entries : (r : ℕ) → r < n → get_or row r 0 ≡ m.entry seed i r =
-    λ r h. c.read_row.ensures.entries c.in_ok-read_row.was r (omega arith) ∙ ap (λ (m : Matrices). m.entry seed i r) walked.kept in (
+    let entries = row_entries g.S.MatrixSource.meaning seed i n c.args.source.now c.loop-i.source row walked (λ r h. c.read_row.ensures.entries c.in_ok-read_row.was r (omega arith)) in (
       walked_more _ g.S.MatrixSource.turned seed i _ _ _ c.read_row.result c.read_row.ensures.turned walked c.in_ok-read_row.was,
-      c.add_row.auto.sums ∙ c.loop-i.invariant.1,
+      c.type_inv.sums,
       λ k h j m'.
           sums_entry i k j (m.entry seed) (signed l c.args.x2.now) (get_or row j 0) (signed n c.loop-i.sums k j) (signed n c.add_row.new.sums k j) _ (c.loop-i.invariant.2 k h j m') (entries j m') (get_or-between c.args.x2.now (i * l) (i * l + l) k (pos 0) (omega arith))
-          (rw rows at (c.add_row.ensures.value k (omega arith) j (omega arith))),
-      λ k. omega (arith, c.add_row.ensures.grows k, c.loop-i.invariant.3 k),
+          (c.add_row.ensures.value k (omega arith) j (omega arith)),
+      λ k. omega (arith, c.add_row.ensures.grows (i * 2 ^ 32) c.loop-i.invariant.3 k),
     )
 
 pub returns : goal.returns

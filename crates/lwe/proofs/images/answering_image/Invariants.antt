@@ -1,6 +1,6 @@
-use Rattle.std.proofs.Common.{◌≡◌, ℕ, ◌*◌, ◌^◌, ◌<◌, ◌≤◌, length, get_or, pos, nat_abs}
+use Rattle.std.proofs.Common.{◌≡◌, ℕ, ◌*◌, ◌^◌, ◌<◌, length}
 use Rattle.lwe.specs.Images.{public_matrix}
-use Rattle.lwe.specs.Matrices.{signed, times, transposed}
+use Rattle.lwe.specs.Matrices.{Within, signed, times, transposed}
 use Rattle.lwe.proofs.Rows.{Walked}
 use Rattle.lwe.proofs.images.answering_image.Given as goal
 
@@ -11,4 +11,4 @@ invariant-loop-i g l =
     Walked g.S.MatrixSource.meaning l.seed l.i l.initial.source l.source
     × (length l.sums ≡ 8192)
     × ((c : ℕ) → c < l.l → (j : ℕ) → j < l.n → signed l.n l.sums c j ≡ times l.i (transposed A) (signed l.l l.x2) j c)
-    × ((k : ℕ) → nat_abs (get_or l.sums k (pos 0)) ≤ l.i * 2 ^ 31)
+    × Within (l.i * 2 ^ 32) l.sums

@@ -10,4 +10,4 @@ abbrev pub invariant-loop-i : goal.invariant-loop-i
 invariant-loop-i g l =
     let A = public_matrix (g.S.MatrixSource.meaning l.initial.source) l.seed in
     Walked g.S.MatrixSource.meaning l.seed l.i l.initial.source l.source
-    × Filled 8192 (l.i * l.l) (λ k. Y1 l.q l.n A (signed l.l l.x1) (signed l.l l.e1) (k / l.l) (k % l.l)) l.image
+    × Filled 8192 (l.i * l.l) (λ k. Y1 l.sizes.q l.n A (signed l.l l.x1) (signed l.l l.e1) (k / l.l) (k % l.l)) l.image

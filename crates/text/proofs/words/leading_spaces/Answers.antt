@@ -1,20 +1,12 @@
-use Rattle.std.proofs.Common.{arith}
-use Rattle.text.proofs.Cutting.{spaces_more, spaces_here, spaces_all}
+use Rattle.std.proofs.Common.{ℕ, Bool, Option, ◌∙◌, ap, unwrap_or, eqb, not, length, rules, tests}
+use Rattle.std.proofs.lemmas.Iterator.{YieldsList-from_slice}
+use Rattle.std.proofs.lemmas.Iterator.Search.{position_from_yields_List}
+use Rattle.text.proofs.Cutting.{spaces_found}
 use Rattle.text.proofs.words.leading_spaces.Goals as goal
 
-pub loop-i-preserved : goal.loop-i-preserved
-loop-i-preserved c = spaces_more c.args.bytes.now c.loop-i.i c.loop-i-test.true c.if-b-ne32.false c.loop-i.invariant
-
-pub returns : goal.returns
-returns c = record {
-  value =
-      spaces_all c.args.bytes.now c.loop-i.i c.loop-i-test.false c.loop-i.auto.i-end c.loop-i.invariant;
-  within = omega arith;
-}
-
-pub returns-then-b-ne32 : goal.returns-then-b-ne32
-returns-then-b-ne32 c = record {
-  value =
-      spaces_here c.args.bytes.now c.loop-i.i c.loop-i-test.true c.if-b-ne32.true c.loop-i.invariant;
-  within = omega arith;
-}
+pub returns-clause-value : goal.returns-clause-value
+returns-clause-value c =
+    let bytes = c.args.bytes.now in
+    let is : ℕ → Bool = λ b. not (eqb b 32) in
+    let first = position_from_yields_List is _ _ c.position.result c.position.ensures.ran (YieldsList-from_slice bytes cc) (λ x b q k. search (rules, tests)) in
+    c.unwrap_or.ensures ∙ ap (λ (o : Option ℕ). unwrap_or o (length bytes)) first ∙ spaces_found bytes

@@ -1,21 +1,12 @@
-use Rattle.std.proofs.Common.{arith}
-use Rattle.text.proofs.Cutting.{place_more, place_here, place_nowhere}
+use Rattle.std.proofs.Common.{ℕ, Bool, Option, ◌∙◌, ap, unwrap_or, eqb, length, rules, tests}
+use Rattle.std.proofs.lemmas.Iterator.{YieldsList-from_slice}
+use Rattle.std.proofs.lemmas.Iterator.Search.{position_from_yields_List}
+use Rattle.text.proofs.Cutting.{place_found}
 use Rattle.text.proofs.words.place_of.Goals as goal
 
-pub loop-i-preserved : goal.loop-i-preserved
-loop-i-preserved c =
-    place_more c.args.byte c.args.bytes.now c.loop-i.i c.loop-i-test.true c.if-b-byte.false c.loop-i.invariant
-
-pub returns : goal.returns
-returns c = record {
-  value =
-      place_nowhere c.args.byte c.args.bytes.now c.loop-i.i c.loop-i-test.false c.loop-i.auto.i-end c.loop-i.invariant;
-  within = omega arith;
-}
-
-pub returns-then-b-byte : goal.returns-then-b-byte
-returns-then-b-byte c = record {
-  value =
-      place_here c.args.byte c.args.bytes.now c.loop-i.i c.loop-i-test.true c.if-b-byte.true c.loop-i.invariant;
-  within = omega arith;
-}
+pub returns-clause-value : goal.returns-clause-value
+returns-clause-value c =
+    let bytes = c.args.bytes.now in
+    let is : ℕ → Bool = λ b. eqb b c.args.byte in
+    let first = position_from_yields_List is _ _ c.position.result c.position.ensures.ran (YieldsList-from_slice bytes cc) (λ x b q k. search (rules, tests)) in
+    c.unwrap_or.ensures ∙ ap (λ (o : Option ℕ). unwrap_or o (length bytes)) first ∙ place_found c.args.byte bytes

@@ -1,7 +1,6 @@
-use Rattle.std.proofs.Common.{◌≡◌, string_bytes}
-use Rattle.std.specs.List.{range_with_len, flat_map}
-use Rattle.trial_record.specs.Lines.{line_at}
+use Rattle.std.proofs.Common.{◌≡◌, string_bytes, length}
+use Rattle.trial_record.proofs.Outputs.{Printed}
 use Rattle.trial_record.proofs.line.lines.Given as goal
 
-abbrev pub invariant-loop-i : goal.invariant-loop-i
-invariant-loop-i l = string_bytes l.text ≡ flat_map (line_at l.input) (range_with_len 0 l.i)
+abbrev pub invariant-loop-record : goal.invariant-loop-record
+invariant-loop-record l = Printed l.input (string_bytes l.text) (length l.yielded) l.record-iterator.rest.now × (l.record-iterator.size ≡ 14)
