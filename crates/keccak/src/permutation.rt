@@ -114,8 +114,8 @@ fn rho_pi(a: [u64; 25]) -> [u64; 25]
     ]
 }
 
-// One row of chi: a0 ^ (!a1 & a2), and so on around the row. For speed, three complements do the work of five, since
-// a1 ^ (!a2 & a3) is !a1 ^ (a2 | !a3).
+// One row of chi, its five lanes: a0 ^ (!a1 & a2), and so on around the row. For speed, three complements do the work of five,
+// since a1 ^ (!a2 & a3) is !a1 ^ (a2 | !a3).
 fn chi_row(a0: u64, a1: u64, a2: u64, a3: u64, a4: u64) -> [u64; 5]
     ensures { result ≡ chi_row a0 a1 a2 a3 a4 }
 {

@@ -53,7 +53,7 @@ impl Sizes {
         columns
     }
 
-    // A row of the public matrix times each column of a secret, with noise.
+    // A row of the public matrix times each column of a secret, with noise. The four meet here alone.
     fn image_row(&self, row: &[u16], columns: &[i16; 8192], noise: &[i16], image: &mut [u16])
         requires { (length row.now ≡ self.now.n) × (length noise.now ≡ self.now.la) × (length image.old ≡ self.now.la) }
         ensures { (c : ℕ) → c < self.now.la → slice_index image.new c ≡ residue (sum self.now.n (λ r. pos (slice_index row.now r) *ℤ signed self.now.n columns.now c r) +ℤ slice_index_or noise.now c (pos 0)) self.now.q }

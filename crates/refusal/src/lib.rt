@@ -46,7 +46,8 @@ impl fmt::Display for Refusal {
 }
 
 // What is common to the reasons for which the calls of a crate are refused. Each of them writes a `Display` of one line over
-// `words`: one for all is refused, since neither `Display` nor the type would be of this crate.
+// `words`, by hand: one for all is refused, since neither `Display` nor the type would be of this crate, and a derived one does not
+// say what it prints.
 pub trait Fault {
     ghost number_of: { Self → ℕ };
 
