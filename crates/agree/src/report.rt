@@ -71,44 +71,54 @@ impl fmt::Display for Report {
             "  The first side settles its sum {sum} with draw {draw}: digit {digit}, hint {hint}."
         )?;
         writeln!(f, "  It keeps the digit and sends hint {hint}.")?;
-        write_other_side(f, numbers, second, carried)
+        let other = OtherSide {
+            numbers,
+            second,
+            carried,
+        };
+        write!(f, "{other}")
     }
 }
 
-// What the side that holds `second` comes to.
-fn write_other_side<W: fmt::Write>(
-    f: &mut fmt::Formatter<W>,
+// What the side that holds the second sum comes to.
+#[derive(Clone, Copy)]
+struct OtherSide {
     numbers: Numbers,
     second: u16,
     carried: Carried,
-) -> fmt::Result {
-    let Numbers {
-        modulus,
-        distance,
-        ..
-    } = numbers;
-    let Carried {
-        digit,
-        hint,
-        recovered,
-        apart,
-    } = carried;
-    let reach = if apart <= distance {
-        "within"
-    } else {
-        "beyond"
-    };
-    writeln!(
-        f,
-        "  The other side holds sum {second}, {apart} away around {modulus}: {reach} the distance."
-    )?;
-    writeln!(
-        f,
-        "  From it and hint {hint} it recovers digit {recovered}."
-    )?;
-    if recovered == digit {
-        writeln!(f, "  The two sides agree on digit {digit}.")
-    } else {
-        writeln!(f, "  The two sides do not agree.")
+}
+
+impl fmt::Display for OtherSide {
+    fn fmt<W: fmt::Write>(&self, f: &mut fmt::Formatter<W>) -> fmt::Result {
+        let Numbers {
+            modulus,
+            distance,
+            ..
+        } = self.numbers;
+        let Carried {
+            digit,
+            hint,
+            recovered,
+            apart,
+        } = self.carried;
+        let reach = if apart <= distance {
+            "within"
+        } else {
+            "beyond"
+        };
+        writeln!(
+            f,
+            "  The other side holds sum {}, {apart} away around {modulus}: {reach} the distance.",
+            self.second
+        )?;
+        writeln!(
+            f,
+            "  From it and hint {hint} it recovers digit {recovered}."
+        )?;
+        if recovered == digit {
+            writeln!(f, "  The two sides agree on digit {digit}.")
+        } else {
+            writeln!(f, "  The two sides do not agree.")
+        }
     }
 }
