@@ -1,5 +1,5 @@
 -- What the loops and the tests of a request's words come to. Assumes nothing.
-use Rattle.std.proofs.Common.{◌≡◌, ℕ, ◌+◌, ◌-◌, ◌<◌, ◌≤◌, Bool, true, false, cond, ltb, List, [], ◌∷◌, ◌++◌, length, get_or, take, drop, Some, None, Ok, Err, decimal, Option, map, refl, sym, ap, ◌∙◌, append_assoc, append-nil, zero-add, arith}
+use Rattle.std.proofs.Common.{◌≡◌, ℕ, ◌+◌, ◌-◌, ◌<◌, ◌≤◌, Bool, true, false, cond, ltb, List, [], ◌∷◌, ◌++◌, length, get_or, take, drop, Some, None, Ok, Err, decimal, Option, sym, ap, ◌∙◌, append_assoc, append-nil, zero-add, arith}
 use Rattle.std.specs.List.{flat_map}
 use Rattle.std.proofs.lemmas.List.FromFn.{map-range_with_len_more}
 use Rattle.std.proofs.lemmas.List.{at_drop_more, at_drop_all, take_all, take-append-le, take_rest, drop_all}
@@ -7,10 +7,7 @@ use Rattle.matrix.specs.Matrices.{Matrices, Row}
 use Rattle.matrix.specs.Replies.{column_reply}
 use Rattle.matrix.specs.declared.fault.SourceFault.TheVariants.{Column}
 use Rattle.text.specs.Words.{place}
-use Rattle.text.specs.Hex.{seed_of}
-use Rattle.text.specs.Numbers.{followed, decimal_value}
-use denote.Ref.{Bor}
-use Rattle.vector_line.specs.Rows.{entries_to, row_request, spaced_number, spaced_text}
+use Rattle.vector_line.specs.Rows.{entries_to, spaced_number, spaced_text}
 
 -- one more entry of a row
 pub one_more : (m : Matrices) (row : Option Row) (j entry : ℕ) (before after : List ℕ)
@@ -59,26 +56,3 @@ uncut input e = (sym (take_all (place 10 input) input (omega arith)), sym (drop_
 -- what a vector holds after all of it was written
 pub filled : (out items : List ℕ) (len : ℕ) → length out ≡ len → take len (out ++ drop (length out) items) ≡ out
 filled out items len e = take-append-le len out (drop (length out) items) (omega arith) ∙ take_all len out (omega arith)
-
-abbrev pub texts : List (Bor (List ℕ)) → List (List ℕ)
-texts ws = map (λ w. w.now) ws
-
--- no four words make no request
-pub row_count : (ws : List (Bor (List ℕ))) → (length ws ≡ 4 → ⊥) → None ≡ row_request (texts ws)
-row_count [] h = refl
-row_count (a ∷ []) h = refl
-row_count (a ∷ b ∷ []) h = refl
-row_count (a ∷ b ∷ c ∷ []) h = refl
-row_count (a ∷ b ∷ c ∷ d ∷ []) h = absurd (h refl)
-row_count (a ∷ b ∷ c ∷ d ∷ e ∷ ws) h = refl
-
--- four words are read one by one
-pub row_steps : (ws : List (Bor (List ℕ))) (none : Bor (List ℕ)) → length ws ≡ 4 → (seed : Option (List ℕ)) (i n q : Option ℕ)
-    → seed ≡ seed_of (get_or ws 0 none).now → i ≡ decimal_value (get_or ws 1 none).now → n ≡ decimal_value (get_or ws 2 none).now → q ≡ decimal_value (get_or ws 3 none).now
-    → followed seed (λ seed. followed i (λ i. followed n (λ n. followed q (λ q. Some (record { seed = seed; row = i; n = n; q = q }))))) ≡ row_request (texts ws)
-row_steps (a ∷ b ∷ c ∷ d ∷ []) none h seed i n q is_seed is_i is_n is_q = rw (is_seed, is_i, is_n, is_q) refl
-row_steps [] none h seed i n q is_seed is_i is_n is_q = cc
-row_steps (a ∷ []) none h seed i n q is_seed is_i is_n is_q = cc
-row_steps (a ∷ b ∷ []) none h seed i n q is_seed is_i is_n is_q = cc
-row_steps (a ∷ b ∷ c ∷ []) none h seed i n q is_seed is_i is_n is_q = cc
-row_steps (a ∷ b ∷ c ∷ d ∷ e ∷ ws) none h seed i n q is_seed is_i is_n is_q = absurd (omega arith)

@@ -1,11 +1,12 @@
 // The request `row SEED I N Q`.
-ghost use Rattle.std.specs.Prelude.{◌≡◌, true, is_some, map, IfOk, string_bytes};
+ghost use Rattle.std.specs.Prelude.{◌≡◌, true, is_some, IfOk, string_bytes};
 ghost use Rattle.std.specs.Result.{result_map_both};
 ghost use Rattle.matrix.specs.Expanding.{expanding_of, expanding_row};
 ghost use Rattle.text.specs.Words.{left};
 ghost use Rattle.vector_line.specs.Faults.{Gives};
 ghost use Rattle.vector_line.specs.Rows.{turned_entries, spaced_text, row_reply, row_request, row_text, row_line};
 
+use crate::arguments::four_words;
 use crate::fault::LineFault;
 use matrix::expanding::ExpandingSource;
 use matrix::fault::SourceFault;
@@ -54,12 +55,10 @@ struct RowRequest {
 
 impl RowRequest {
     // The request that the words make, if they are a seed and three numbers.
-    fn parse(words: &[&[u8]]) -> Option<RowRequest>
-        ensures { result ≡ row_request (map (λ word. word.now) words.now) }
+    fn parse(words: Words<'_>) -> Option<RowRequest>
+        ensures { result ≡ row_request (left words.entry) }
     {
-        let [seed, row, n, q] = words else {
-            return None;
-        };
+        let (seed, row, n, q) = four_words(words)?;
         // `as`: there is no `From` between u32 and usize
         Some(RowRequest {
             seed: decode_seed(seed)?,
@@ -94,7 +93,6 @@ impl RowRequest {
 pub(crate) fn row_line(heap: Global, words: Words<'_>) -> Result<String, LineFault>
     ensures { Gives string_bytes (row_line (left words.entry)) result }
 {
-    let words: Vec<&[u8]> = words.collect(heap)?;
-    let request = RowRequest::parse(words.as_slice()).ok_or(LineFault::NoRequest)?;
+    let request = RowRequest::parse(words).ok_or(LineFault::NoRequest)?;
     Ok(request.line(heap)?)
 }

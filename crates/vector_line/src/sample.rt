@@ -4,6 +4,7 @@ ghost use Rattle.text.specs.Words.{left};
 ghost use Rattle.vector_line.specs.Faults.{Gives};
 ghost use Rattle.vector_line.specs.Samples.{sample_reply, sample_text, sample_line};
 
+use crate::arguments::two_words;
 use crate::fault::LineFault;
 use noise::fault::NoiseFault;
 use noise::law::NoiseLaw;
@@ -36,10 +37,7 @@ fn sample_text(heap: Global, reply: Result<i16, NoiseFault>) -> Result<String, A
 pub fn sample_line(heap: Global, words: Words<'_>) -> Result<String, LineFault>
     ensures { Gives string_bytes (sample_line (left words.entry)) result }
 {
-    let words: Vec<&[u8]> = words.collect(heap)?;
-    let [law, word] = words.as_slice() else {
-        return Err(LineFault::NoRequest);
-    };
+    let (law, word) = two_words(words).ok_or(LineFault::NoRequest)?;
     let law = decimal(law).ok_or(LineFault::NoRequest)?;
     let word = decimal(word).ok_or(LineFault::NoRequest)?;
     Ok(sample_text(heap, sample(law, word))?)

@@ -5,6 +5,7 @@ ghost use Rattle.text.specs.Words.{left};
 ghost use Rattle.vector_line.specs.Faults.{Gives};
 ghost use Rattle.vector_line.specs.Shakes.{message_of, shake_line};
 
+use crate::arguments::two_words;
 use crate::fault::LineFault;
 use keccak::sponge::shake128;
 use std::alloc::{AllocError, Global};
@@ -35,10 +36,7 @@ fn output(heap: Global, message: &[u8], length: usize) -> Result<Vec<u8>, AllocE
 pub(crate) fn shake_line(heap: Global, words: Words<'_>) -> Result<String, LineFault>
     ensures { Gives string_bytes (shake_line (left words.entry)) result }
 {
-    let words: Vec<&[u8]> = words.collect(heap)?;
-    let [message, length] = words.as_slice() else {
-        return Err(LineFault::NoRequest);
-    };
+    let (message, length) = two_words(words).ok_or(LineFault::NoRequest)?;
     let message = message_of(heap, message)?;
     let length = decimal(length).ok_or(LineFault::NoRequest)?;
     // `as`: there is no `From` between u32 and usize
