@@ -1,14 +1,11 @@
 -- Reading and writing pairs of hex digits. Assumes nothing.
-use Rattle.std.proofs.Common.{◌-◌, ◌^◌, false, eqb, ⊎_elim, vec_items, Vec, Global, ◌≡◌, ℕ, suc, ◌+◌, ◌*◌, ◌/◌, ◌%◌, ◌<◌, List, [], ◌∷◌, ◌++◌, length, get_or, drop, Some, None, Option, sym, refl, ap, ◌∙◌, ap₂, append_assoc, arith}
-use Rattle.std.proofs.lemmas.List.{drop_more, take_all, take-append-le}
-use Rattle.std.proofs.lemmas.Bool.{cond-true, cond-false, eq-eqb, ne_eqb, cases_lt}
+use Rattle.std.proofs.Common.{◌-◌, ◌^◌, false, ◌≡◌, ℕ, suc, ◌+◌, ◌*◌, ◌/◌, ◌%◌, ◌<◌, List, [], ◌∷◌, ◌++◌, length, get_or, drop, Some, None, Option, sym, refl, ap, ◌∙◌, ap₂, append_assoc, arith}
+use Rattle.std.proofs.lemmas.List.{drop_more}
 use Rattle.std.proofs.lemmas.Fmt.{hex_byte}
 use Rattle.std.specs.Fmt.{digit_glyph, digits, padded_integral, format_spec}
-use Rattle.std.specs.Option.{option_map, option_and}
-use Rattle.std.specs.Vec.{with_items}
 use Rattle.std.proofs.lemmas.Bool.Decides.{nat_tests}
 use Rattle.text.specs.Numbers.{followed}
-use Rattle.text.specs.Hex.{hex_digit, byte_of, bytes_of, sized_bytes, letter, hex_of}
+use Rattle.text.specs.Hex.{hex_digit, byte_of, bytes_of, letter, hex_of}
 
 -- bytes before those that may follow
 abbrev pub after : List ℕ → Option (List ℕ) → Option (List ℕ)
@@ -45,28 +42,12 @@ none_after None = refl
 none_after (Some byte) = refl
 
 -- a digit is left over
-odd_length : (word : List ℕ) → length word % 2 ≡ 1 → bytes_of word ≡ None
+pub odd_length : (word : List ℕ) → length word % 2 ≡ 1 → bytes_of word ≡ None
 odd_length [] odd = cc
 odd_length (a ∷ []) odd = refl
 odd_length (a ∷ b ∷ word) odd =
     let fewer : length word % 2 ≡ 1 = omega arith in
     ap (λ (rest : Option (List ℕ)). followed (byte_of a b) (λ byte. followed rest (λ bytes. Some (byte ∷ bytes)))) (odd_length word fewer) ∙ none_after (byte_of a b)
-
--- as many bytes as the word has pairs
-whole_word : (word : List ℕ) (n : ℕ) → n ≡ length word / 2 → sized_bytes n word ≡ bytes_of word
-whole_word word n e =
-    ⊎_elim
-    (λ even. cond-true (eqb (length word) (2 * n)) (bytes_of word) None (eq-eqb (length word) (2 * n) (omega arith)))
-    (λ odd.
-    cond-false (eqb (length word) (2 * n)) (bytes_of word) None (ne_eqb (length word) (2 * n) (omega arith)) ∙ sym (odd_length word (omega arith)))
-    (cases_lt (length word % 2) 1)
-
--- what a vector holds once its slice was filled
-pub decoded : (r : Option (Unit {0})) (v : Vec ℕ Global) (out word : List ℕ) (n : ℕ) → length out ≡ v.len → n ≡ length word / 2
-    → option_map (λ _. out) r ≡ sized_bytes n word → option_map vec_items (option_and r (Some (with_items v out))) ≡ bytes_of word
-decoded None v out word n long half e = e ∙ whole_word word n half
-decoded (Some x) v out word n long half e =
-    ap Some (take-append-le v.len out (drop (length out) v.items) (omega arith) ∙ take_all v.len out (omega arith)) ∙ e ∙ whole_word word n half
 
 digit_back : (d : ℕ) → d < 16 → hex_digit (letter d) ≡ Some d
 digit_back d h = grind (arith, nat_tests)

@@ -31,8 +31,18 @@ fn decode_into(word: &[u8], bytes: &mut [u8]) -> Option<()>
 pub fn decode(heap: Global, word: &[u8]) -> Result<Option<Vec<u8>>, AllocError>
     ensures { IfOk result (λ o. option_map vec_items o ≡ bytes_of word.now) }
 {
-    let mut bytes = vec![in heap; 0; word.len() / 2]?;
-    Ok(decode_into(word, bytes.as_mut_slice()).and(Some(bytes)))
+    if word.len() % 2 == 1 {
+        return Ok(None);
+    }
+    // pushed one by one: only what a word writes takes memory
+    let mut bytes = Vec::new(heap);
+    for i in 0..word.len() / 2 {
+        let Some(byte) = byte_of(word[2 * i], word[2 * i + 1]) else {
+            return Ok(None);
+        };
+        bytes.push(byte)?;
+    }
+    Ok(Some(bytes))
 }
 
 // The seed that a word of 64 hex digits writes, and None for any other word.

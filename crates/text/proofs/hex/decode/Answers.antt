@@ -1,10 +1,13 @@
-use Rattle.std.proofs.Common.{Vec, Global, Option, ℕ, vec_items, ap, ◌∙◌}
-use Rattle.std.specs.Option.{option_map}
-use Rattle.text.proofs.Pairing.{decoded}
+use Rattle.std.proofs.Common.{ℕ, ◌+◌, ◌*◌, List, drop, Some, vec_items, sym, ap, ◌∙◌, arith}
+use Rattle.text.specs.Hex.{bytes_of}
+use Rattle.text.proofs.Pairing.{after, at_pair, odd_length}
 use Rattle.text.proofs.hex.decode.Goals as goal
 
-pub returns : goal.returns
-returns c =
-    ap (λ (o : Option (Vec ℕ Global)). option_map vec_items o) c.and.ensures
-    ∙ decoded c.decode_into.result c.in_ok-bytes.bytes c.decode_into.new.bytes c.args.word.now _
-    (c.decode_into.auto.bytes ∙ c.as_mut_slice.ensures.len) (c.as_mut_slice.ensures.len ∙ c.in_ok-bytes.ensures.len) c.decode_into.ensures
+pub returns-then-word-eq1 : goal.returns-then-word-eq1
+returns-then-word-eq1 c = sym (odd_length c.args.word.now c.if-word-eq1.true)
+
+pub loop-i-preserved : goal.loop-i-preserved
+loop-i-preserved c =
+    at_pair (Some c.in-Some.byte) (vec_items c.loop-i.bytes) c.args.word.now c.loop-i.i (omega arith)
+    c.in-Some.ensures c.loop-i.invariant
+    ∙ ap (λ (l : List ℕ). after l (bytes_of (drop (2 * (c.loop-i.i + 1)) c.args.word.now))) (sym c.in_ok-push.ensures.items)
