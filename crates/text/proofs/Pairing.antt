@@ -1,8 +1,6 @@
 -- Reading and writing pairs of hex digits. Assumes nothing.
-use Rattle.std.proofs.Common.{◌-◌, ◌^◌, false, ◌≡◌, ℕ, suc, ◌+◌, ◌*◌, ◌/◌, ◌%◌, ◌<◌, List, [], ◌∷◌, ◌++◌, length, get_or, drop, Some, None, Option, sym, refl, ap, ◌∙◌, ap₂, append_assoc, arith}
-use Rattle.std.proofs.lemmas.List.{drop_more}
-use Rattle.std.proofs.lemmas.Fmt.{hex_byte}
-use Rattle.std.specs.Fmt.{digit_glyph, digits, padded_integral, format_spec}
+use Rattle.std.proofs.Common.{◌≤◌, append-nil, ◌≡◌, ℕ, suc, ◌+◌, ◌*◌, ◌/◌, ◌%◌, ◌<◌, List, [], ◌∷◌, ◌++◌, length, get_or, drop, Some, None, Option, sym, refl, ap, ◌∙◌, ap₂, append_assoc, arith}
+use Rattle.std.proofs.lemmas.List.{drop_more, drop_all}
 use Rattle.std.proofs.lemmas.Bool.Decides.{nat_tests}
 use Rattle.text.specs.Numbers.{followed}
 use Rattle.text.specs.Hex.{hex_digit, byte_of, bytes_of, letter, hex_of}
@@ -37,6 +35,11 @@ at_pair o front word i within e so_far =
     moved None = refl
     moved (Some byte) = after_more front byte rest
 
+pub at_end : (front word : List ℕ) (i : ℕ) → length word ≤ 2 * i
+    → bytes_of word ≡ after front (bytes_of (drop (2 * i) word)) → bytes_of word ≡ Some front
+at_end front word i past so_far =
+    so_far ∙ ap (λ l. after front (bytes_of l)) (drop_all (2 * i) word past) ∙ ap (λ l. Some l) (append-nil front)
+
 none_after : {Y : Type 0} (o : Option ℕ) → followed {Y = Y} o (λ byte. None) ≡ None
 none_after None = refl
 none_after (Some byte) = refl
@@ -65,17 +68,14 @@ reads_back (byte ∷ bytes) h =
     ap₂ (λ (p : Option ℕ) (q : Option (List ℕ)). followed p (λ x. followed q (λ xs. Some (x ∷ xs))))
     (byte_back byte (h 0)) (reads_back bytes (λ i. h (suc i)))
 
--- the library's digits
-glyph_letter : (d : ℕ) → digit_glyph false d ≡ letter d
-glyph_letter d = grind (arith, nat_tests)
-
 -- one byte further in writing
-pub written_more : (text ended bytes : List ℕ) (i : ℕ) → i < length bytes → get_or bytes i 0 < 256 → hex_of bytes ≡ text ++ hex_of (drop i bytes)
-    → ended ≡ text ++ padded_integral (format_spec 32 0 4 2 (2 ^ 64 - 1)) false [] (digits 16 false (get_or bytes i 0))
+pub written_more : (text pushed ended bytes : List ℕ) (i : ℕ) → i < length bytes → hex_of bytes ≡ text ++ hex_of (drop i bytes)
+    → pushed ≡ text ++ letter (get_or bytes i 0 / 16) ∷ [] → ended ≡ pushed ++ letter (get_or bytes i 0 % 16) ∷ []
     → hex_of bytes ≡ ended ++ hex_of (drop (i + 1) bytes)
-written_more text ended bytes i within byte so_far e =
-    let b = get_or bytes i 0 in
+written_more text pushed ended bytes i within so_far p e =
+    let high = letter (get_or bytes i 0 / 16) in
+    let low = letter (get_or bytes i 0 % 16) in
     let rest = hex_of (drop (i + 1) bytes) in
     so_far ∙ ap (λ l. text ++ hex_of l) (drop_more bytes i 0 within)
-    ∙ sym (append_assoc text (letter (b / 16) ∷ letter (b % 16) ∷ []) rest)
-    ∙ ap (λ l. l ++ rest) (sym (e ∙ ap (λ l. text ++ l) (hex_byte false b byte ∙ ap₂ (λ x y. x ∷ y ∷ []) (glyph_letter (b / 16)) (glyph_letter (b % 16)))))
+    ∙ sym (append_assoc text (high ∷ []) (low ∷ rest)) ∙ ap (λ l. l ++ low ∷ rest) (sym p)
+    ∙ sym (append_assoc pushed (low ∷ []) rest) ∙ ap (λ l. l ++ rest) (sym e)

@@ -1,7 +1,7 @@
 // Bytes written as hex: two digits for each byte, the high one first.
-ghost use Rattle.std.specs.Prelude.{◌≡◌, IfOk, Some, length, vec_items, string_bytes};
+ghost use Rattle.std.specs.Prelude.{◌≡◌, IfOk, Some, ◌<◌, length, vec_items, string_bytes};
 ghost use Rattle.std.specs.Option.{option_map};
-ghost use Rattle.text.specs.Hex.{byte_of, bytes_of, sized_bytes, seed_of, hex_of};
+ghost use Rattle.text.specs.Hex.{byte_of, bytes_of, sized_bytes, seed_of, letter, hex_of};
 
 use std::alloc::{AllocError, Global};
 
@@ -54,6 +54,15 @@ pub fn decode_seed(word: &[u8]) -> Option<[u8; 32]>
     Some(seed)
 }
 
+// The digit as it is written.
+fn letter_of(digit: u8) -> char
+    requires { digit < 16 }
+    ensures value { result ≡ letter digit }
+    ensures ascii { result < 128 }
+{
+    char::from_digit(u32::from(digit), 16).unwrap()
+}
+
 // The text that writes the bytes, in lower case.
 pub fn encode(heap: Global, bytes: &[u8]) -> Result<String, AllocError>
     ensures text { IfOk result (λ text. string_bytes text ≡ hex_of bytes.now) }
@@ -61,7 +70,8 @@ pub fn encode(heap: Global, bytes: &[u8]) -> Result<String, AllocError>
 {
     let mut text = String::new(heap);
     for byte in bytes {
-        write!(text, "{byte:02x}")?;
+        text.push(letter_of(byte / 16))?;
+        text.push(letter_of(byte % 16))?;
     }
     Ok(text)
 }
