@@ -37,7 +37,7 @@ too_large n (b ∷ bs) h =
     elim (digit b) as (λ o. followed (followed o (λ d. read_on (n * 10 + d) bs)) fitting ≡ None)
     [ None ↦ refl | Some d ↦ too_large (n * 10 + d) bs (omega arith) ]
 
-at_digit : (o : Option ℕ) (n : ℕ) (word : List ℕ) (i : ℕ) → i < length word → o ≡ digit (get_or word i 0)
+pub at_digit : (o : Option ℕ) (n : ℕ) (word : List ℕ) (i : ℕ) → i < length word → o ≡ digit (get_or word i 0)
     → read_from n (drop i word) ≡ followed (followed o (λ d. read_on (n * 10 + d) (drop (i + 1) word))) fitting
 at_digit o n word i within e =
     let here : read_from n (drop i word) ≡ followed (followed (digit (get_or word i 0)) (λ d. read_on (n * 10 + d) (drop (i + 1) word))) fitting
