@@ -11,42 +11,37 @@ use crate::numbers::Numbers;
 pub trait Rule {
     ghost meaning: { Self → Consensus };
 
-    fn numbers(&self) -> Numbers
-        ensures { result ≡ numbers_of (meaning self.now) };
-
     // q: sums run from 0 to q - 1.
     fn modulus(&self) -> u32
-        ensures { result ≡ (meaning self.now).modulus }
-    {
-        self.numbers().modulus
-    }
+        ensures { result ≡ (meaning self.now).modulus };
 
     // m: digits run from 0 to m - 1.
     fn digits(&self) -> u32
-        ensures { result ≡ (meaning self.now).digits }
-    {
-        self.numbers().digits
-    }
+        ensures { result ≡ (meaning self.now).digits };
 
     // g: hints run from 0 to g - 1.
     fn hints(&self) -> u32
-        ensures { result ≡ (meaning self.now).hints }
-    {
-        self.numbers().hints
-    }
+        ensures { result ≡ (meaning self.now).hints };
 
     // d: sums that lie at most so far apart around q come to one digit.
     fn distance(&self) -> u32
-        ensures { result ≡ (meaning self.now).distance }
-    {
-        self.numbers().distance
-    }
+        ensures { result ≡ (meaning self.now).distance };
 
     // C: draws run from 0 to C - 1.
     fn draws(&self) -> u32
-        ensures { result ≡ (meaning self.now).draws }
+        ensures { result ≡ (meaning self.now).draws };
+
+    // The five of them together.
+    fn numbers(&self) -> Numbers
+        ensures { result ≡ numbers_of (meaning self.now) }
     {
-        self.numbers().draws
+        Numbers {
+            modulus: self.modulus(),
+            digits: self.digits(),
+            hints: self.hints(),
+            distance: self.distance(),
+            draws: self.draws(),
+        }
     }
 
     // The digit of a sum, and the hint for the other side. A sum out of range is refused first, then a draw.

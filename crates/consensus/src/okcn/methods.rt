@@ -30,6 +30,26 @@ impl Rule for Okcn {
 
     ghost lawful = { λ r. OkcnValues.lawful r };
 
+    fn modulus(&self) -> u32 {
+        self.numbers.modulus
+    }
+
+    fn digits(&self) -> u32 {
+        self.numbers.digits
+    }
+
+    fn hints(&self) -> u32 {
+        self.numbers.hints
+    }
+
+    fn distance(&self) -> u32 {
+        self.numbers.distance
+    }
+
+    fn draws(&self) -> u32 {
+        self.numbers.draws
+    }
+
     fn numbers(&self) -> Numbers {
         self.numbers
     }
