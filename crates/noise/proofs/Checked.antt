@@ -150,24 +150,22 @@ number_small Three = lit≤ tt
 number_small Four = lit≤ tt
 number_small Five = lit≤ tt
 
-few_bounds : (law : NoiseLaw) → length (bounds_of (number_of law)) ≤ 10
-few_bounds law = (law_passed (number_of law) (number_small law)).few
+few_bounds : (number : ℕ) → number ≤ 5 → length (bounds_of number) ≤ 10
+few_bounds number h = (law_passed number h).few
 
-pub index_small : (law : NoiseLaw) (word : ℕ) → index_of (number_of law) word ≤ 10
-index_small law word = omega (arith, few_bounds law, count_by-le-length (λ b. leb b word) (bounds_of (number_of law)))
+pub index_small : (number word : ℕ) → number ≤ 5 → index_of number word ≤ 10
+index_small number word h = omega (arith, few_bounds number h, count_by-le-length (λ b. leb b word) (bounds_of number))
 
 -- `1 << width`
 pub shifted : (width : ℕ) → width ≤ 16 → 1 * 2 ^ width % 4294967296 ≡ 2 ^ width
 shifted width h = ap (λ n. n % 4294967296) (one-mul (2 ^ width)) ∙ mod-eq_of_lt (pow_below width 32 (omega arith))
 
-pub refused : (law : NoiseLaw) (word : ℕ) → 2 ^ width_of (number_of law) ≤ word → Err Word ≡ value_reply (number_of law) word
-refused law word l =
-    let number = number_of law in
-    cond_above word (2 ^ width_of number) (Ok (value_of number word)) (Err Word) (Err Word) l refl
+pub refused : (number word : ℕ) → 2 ^ width_of number ≤ word → Err Word ≡ value_reply number word
+refused number word l = cond_above word (2 ^ width_of number) (Ok (value_of number word)) (Err Word) (Err Word) l refl
 
-pub valued : (law : NoiseLaw) (word index : ℕ) (value : ℤ) → word < 2 ^ width_of (number_of law) → index ≡ index_of (number_of law) word → value ≡ value_at index → Ok value ≡ value_reply (number_of law) word
-valued law word index value below i v =
-    let number = number_of law in
-    let p = law_passed number (number_small law) in
+pub valued : (number word index : ℕ) (value : ℤ) → number ≤ 5 → word < 2 ^ width_of number → index ≡ index_of number word → value ≡ value_at index
+    → Ok value ≡ value_reply number word
+valued number word index value h below i v =
+    let p = law_passed number h in
     ap Ok (v ∙ ap value_at i ∙ by_place (law_of number).shares word p.ordered (rw p.whole below))
     ∙ cond_below word (2 ^ width_of number) (Ok (value_of number word)) (Err Word) below

@@ -1,5 +1,5 @@
 -- An output grows by one line with each record. Assumes nothing.
-use Rattle.std.proofs.Common.{◌≡◌, ℕ, ◌+◌, ◌*◌, ◌<◌, ◌≤◌, min, true, List, [], ◌∷◌, ◌++◌, length, drop, codes, sym, ap, ◌∙◌, append_assoc, append-nil, map-id, zero-add, arith, length-append}
+use Rattle.std.proofs.Common.{◌≡◌, ℕ, ◌+◌, ◌*◌, ◌<◌, ◌≤◌, min, true, List, [], ◌∷◌, ◌++◌, length, drop, codes, sym, ap, ap₂, ◌∙◌, append_assoc, append-nil, map-id, zero-add, arith, length-append}
 use Rattle.std.specs.Prelude.{nat_le}
 use Rattle.std.specs.List.{range_with_len, flat_map}
 use Rattle.std.proofs.Math.ListN.{get_or-append}
@@ -41,6 +41,12 @@ lines_more f n =
     ap (flat_map f) (sym (map-id (range_with_len 0 (n + 1))) ∙ map-range_with_len_more (λ x. x) 0 n n (zero-add n) ∙ ap (λ xs. xs ++ (n ∷ [])) (map-id (range_with_len 0 n)))
     ∙ sym (flat_map_more f [] (range_with_len 0 n) n)
 
+-- a text of n lines, and one more line pushed onto it with its end
+one_line_more : (f : ℕ → List ℕ) (n : ℕ) (text pushed ended line end : List ℕ) → text ≡ flat_map f (range_with_len 0 n)
+    → pushed ≡ text ++ line → ended ≡ pushed ++ end → f n ≡ line ++ end → ended ≡ flat_map f (range_with_len 0 (n + 1))
+one_line_more f n text pushed ended line end so_far p e here =
+    e ∙ ap (λ t. t ++ end) p ∙ append_assoc text line end ∙ ap₂ ◌++◌ so_far (sym here) ∙ sym (lines_more f n)
+
 -- one more record, and its line pushed onto the text
 pub one_more : {input text : List ℕ} {n : ℕ} {before : List ℕ} (x : List ℕ) {rest pushed ended : List ℕ} → Printed input text n before
     → before ≡ x ++ rest → length x ≡ min 14 (length before) → 0 < length before
@@ -51,14 +57,13 @@ one_more {input} {text} {n} {before} x {rest} p e short some push end =
     let seam = drop-append_seam p.front before in
     let here : drop (14 * n) input ≡ before = rw (← full, p.parts) seam in
     let reply : record_reply before ≡ record_reply x = rw e (reply_front x rest (rw e at short)) in
-    let more = lines_more (line_at input) n in
-    let joined = append_assoc text (line (record_reply x)) (codes "\n") in
+    let added : line_at input n ≡ line (record_reply x) ++ codes "\n" = cc in
     record {
       front = p.front ++ x;
       parts = p.parts ∙ ap (λ xs. p.front ++ xs) e ∙ sym (append_assoc p.front x rest);
       long = omega (arith, length-append p.front x, sizes, length-append p.front before);
       near = omega (arith, sizes, length-append p.front before);
-      lines = cc;
+      lines = one_line_more (line_at input) n text _ _ (line (record_reply x)) (codes "\n") p.lines push end added;
     }
 
 pub all_printed : {input text : List ℕ} {n : ℕ} {rest : List ℕ} → Printed input text n rest → length rest ≡ 0 → records input ≡ n
