@@ -1,7 +1,7 @@
 // The header of a message: eight numbers.
-ghost use Rattle.std.specs.Prelude.{◌≡◌};
+ghost use Rattle.std.specs.Prelude.{◌≡◌, None};
 ghost use Rattle.lwe.specs.Limits.{dimensions};
-ghost use Rattle.wire.specs.Faults.{Verdict, first_unless};
+ghost use Rattle.wire.specs.Faults.{Verdict, unless};
 ghost use Rattle.wire.specs.Headers.{header, fields, header_of, short_fault, field_fault};
 
 use crate::fault::WireFault;
@@ -108,29 +108,24 @@ impl Header {
     pub(crate) fn check(&self, due: &Header, size: usize) -> Result<(), WireFault>
         ensures { Verdict (field_fault self.now due.now size) result (λ _. size ≡ due.now.length) }
     {
-        first_wrong(&[
-            (self.kind == due.kind, WireFault::Field { at: 0 }),
-            (self.number != 0, WireFault::Field { at: 2 }),
-            (self.rows == due.rows, WireFault::Shape { at: 4 }),
-            (self.columns == due.columns, WireFault::Shape { at: 6 }),
-            (self.first == due.first, WireFault::Field { at: 8 }),
-            (self.second == due.second, WireFault::Field { at: 10 }),
-            (self.hints == due.hints, WireFault::Field { at: 12 }),
-            (self.length == due.length, WireFault::Field { at: 14 }),
-            (size == usize::from(due.length), WireFault::Field { at: 14 }),
-        ])
+        expect(self.kind == due.kind, WireFault::Field { at: 0 })?;
+        expect(self.number != 0, WireFault::Field { at: 2 })?;
+        expect(self.rows == due.rows, WireFault::Shape { at: 4 })?;
+        expect(self.columns == due.columns, WireFault::Shape { at: 6 })?;
+        expect(self.first == due.first, WireFault::Field { at: 8 })?;
+        expect(self.second == due.second, WireFault::Field { at: 10 })?;
+        expect(self.hints == due.hints, WireFault::Field { at: 12 })?;
+        expect(self.length == due.length, WireFault::Field { at: 14 })?;
+        expect(size == usize::from(due.length), WireFault::Field { at: 14 })
     }
 }
 
-// The fault of the first field that is not right. Beside each stands whether it is, as a result of each would be made only to be
-// taken apart.
-fn first_wrong(fields: &[(bool, WireFault)]) -> Result<(), WireFault>
-    ensures { Verdict (first_unless fields.now) result (λ _. Unit {0}) }
+// The fault, unless a field is right. Asked of one field at a time, as a list of them all would be made before its first is looked at.
+fn expect(right: bool, fault: WireFault) -> Result<(), WireFault>
+    ensures { Verdict (unless right fault None) result (λ _. Unit {0}) }
 {
-    for (right, fault) in fields {
-        if !*right {
-            return Err(*fault);
-        }
+    if right {
+        return Ok(());
     }
-    Ok(())
+    Err(fault)
 }
