@@ -8,9 +8,9 @@ use lwe::sizes::Sizes;
 #[derive(Clone, Copy, PartialEq, Eq, Debug)]
 pub enum Kind {
     // A seed and the entries of Y1.
-    Offer = 1,
+    Offer,
     // The entries of Y2 and the hints.
-    Answer = 2,
+    Answer,
 }
 
 // The number that stands for a kind in a message.
@@ -18,8 +18,10 @@ impl From<Kind> for u16 {
     ghost from_gives = { λ kind r. r ≡ kind_number kind };
 
     fn from(kind: Kind) -> u16 {
-        // the numbers stand in the type
-        kind as u16
+        match kind {
+            Kind::Offer => 1,
+            Kind::Answer => 2,
+        }
     }
 }
 
