@@ -34,7 +34,7 @@ pub fn decode(heap: Global, word: &[u8]) -> Result<Option<Vec<u8>>, AllocError>
     if word.len() % 2 == 1 {
         return Ok(None);
     }
-    // pushed one by one: only what a word writes takes memory
+    // Pushed one by one, so that only digits already read take memory.
     let mut bytes = Vec::new(heap);
     for i in 0..word.len() / 2 {
         let Some(byte) = byte_of(word[2 * i], word[2 * i + 1]) else {

@@ -42,7 +42,7 @@ lines_more f n =
     ∙ sym (flat_map_more f [] (range_with_len 0 n) n)
 
 -- a text of n lines, and one more line pushed onto it with its end
-one_line_more : (f : ℕ → List ℕ) (n : ℕ) (text pushed ended line end : List ℕ) → text ≡ flat_map f (range_with_len 0 n)
+pub one_line_more : (f : ℕ → List ℕ) (n : ℕ) (text pushed ended line end : List ℕ) → text ≡ flat_map f (range_with_len 0 n)
     → pushed ≡ text ++ line → ended ≡ pushed ++ end → f n ≡ line ++ end → ended ≡ flat_map f (range_with_len 0 (n + 1))
 one_line_more f n text pushed ended line end so_far p e here =
     e ∙ ap (λ t. t ++ end) p ∙ append_assoc text line end ∙ ap₂ ◌++◌ so_far (sym here) ∙ sym (lines_more f n)

@@ -108,20 +108,20 @@ impl Header {
     pub(crate) fn check(&self, due: &Header, size: usize) -> Result<(), WireFault>
         ensures { Verdict (field_fault self.now due.now size) result (λ _. size ≡ due.now.length) }
     {
-        expect(self.kind == due.kind, WireFault::Field { at: 0 })?;
-        expect(self.number != 0, WireFault::Field { at: 2 })?;
-        expect(self.rows == due.rows, WireFault::Shape { at: 4 })?;
-        expect(self.columns == due.columns, WireFault::Shape { at: 6 })?;
-        expect(self.first == due.first, WireFault::Field { at: 8 })?;
-        expect(self.second == due.second, WireFault::Field { at: 10 })?;
-        expect(self.hints == due.hints, WireFault::Field { at: 12 })?;
-        expect(self.length == due.length, WireFault::Field { at: 14 })?;
-        expect(size == usize::from(due.length), WireFault::Field { at: 14 })
+        unless(self.kind == due.kind, WireFault::Field { at: 0 })?;
+        unless(self.number != 0, WireFault::Field { at: 2 })?;
+        unless(self.rows == due.rows, WireFault::Shape { at: 4 })?;
+        unless(self.columns == due.columns, WireFault::Shape { at: 6 })?;
+        unless(self.first == due.first, WireFault::Field { at: 8 })?;
+        unless(self.second == due.second, WireFault::Field { at: 10 })?;
+        unless(self.hints == due.hints, WireFault::Field { at: 12 })?;
+        unless(self.length == due.length, WireFault::Field { at: 14 })?;
+        unless(size == usize::from(due.length), WireFault::Field { at: 14 })
     }
 }
 
 // The fault, unless a field is right. Asked of one field at a time, as a list of them all would be made before its first is looked at.
-fn expect(right: bool, fault: WireFault) -> Result<(), WireFault>
+fn unless(right: bool, fault: WireFault) -> Result<(), WireFault>
     ensures { Verdict (unless right fault None) result (λ _. Unit {0}) }
 {
     if right {

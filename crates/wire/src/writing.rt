@@ -23,7 +23,8 @@ struct Parts<'a> {
 
 impl Parts<'_> {
     // Writes the message at the front of `out`, and says how long it is.
-    // Inlined, so that a caller whose sizes are constants knows the length too: what it then reads back is checked up to five times as fast.
+    // Inlined, so that the compiler knows the length too where a caller's sizes are constants: what is then read back is checked up to
+    // five times as fast.
     #[inline]
     fn write(&self, sizes: &Sizes, out: &mut [u8]) -> Result<usize, WireFault>
         requires { Sized (dimensions sizes.now) self.now.kind (stated self.now) }
